@@ -1,7 +1,6 @@
 -- `account` answers what the file gives, and adds it to the totals; a 1,001st file is refused first.
 -- Assumes nothing.
 use Rattle.account.proofs.Exits.{ends_full, ends_unread, rows-stand, ends_counted}
-use borrow.Author.Rules.{rules}
 use Rattle.account.proofs.account.Goals as goal
 
 pub returns-then-totals-ge-MOST_FILES : goal.returns-then-totals-ge-MOST_FILES

@@ -1,7 +1,6 @@
 -- Each sum is what its call gave.
 -- Assumes nothing.
 use mathlib.Core.Path.{refl}
-use borrow.Author.Rules.{rules}
 use Rattle.account.proofs.add.Goals as goal
 
 pub returns : goal.returns

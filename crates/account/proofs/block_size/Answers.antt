@@ -7,7 +7,6 @@ use Rattle.machine.proofs.Laws.{was}
 use native.Mathlib.Omega.{arith}
 use Rattle.cursor.proofs.Leaves.{number_short, number-inside}
 use Rattle.account.specs.ByRows.{counted}
-use borrow.Author.Rules.{rules}
 use Rattle.account.proofs.block_size.Goals as goal
 
 pub returns-then-first-lt128 : goal.returns-then-first-lt128

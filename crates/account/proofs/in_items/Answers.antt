@@ -1,10 +1,7 @@
 -- `in_items` adds row after row. The invariant: what is left to do is what the rows from row i on give.
 -- Assumes nothing.
-use Prim.Native.Nat.{◌-◌, ◌≤◌}
 use native.Mathlib.Omega.{arith}
-use Rattle.rows.specs.Rows.{item_width, item_from}
-use Rattle.account.specs.ByRows.{with_item}
-use Rattle.account.proofs.Folding.{Folding, folding_begun, folding_on, items-done, items-small}
+use Rattle.account.proofs.Folding.{folding_begun, folding_on, items-done, items-small}
 use Rattle.account.proofs.in_items.Goals as goal
 
 pub loop-i-init : goal.loop-i-init

@@ -1,7 +1,6 @@
 -- `kinds_of` sums over all rows.
 -- Assumes nothing.
 use Rattle.account.proofs.Ways.{in_turn}
-use borrow.Author.Rules.{rules}
 use Rattle.account.proofs.kinds_of.Goals as goal
 
 pub together-requires : goal.together-requires

@@ -2,7 +2,6 @@
 -- Assumes nothing.
 use native.Mathlib.Omega.{arith}
 use Rattle.account.proofs.Numbers.{last-first, last-second, last-third, last-fourth}
-use borrow.Author.Rules.{rules}
 use Rattle.account.proofs.last_byte.Goals as goal
 
 pub returns-then-file-at-lt128 : goal.returns-then-file-at-lt128

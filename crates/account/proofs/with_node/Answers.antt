@@ -5,7 +5,6 @@ use Prim.Native.Nat.{◌-◌}
 use native.Mathlib.Omega.{arith}
 use Rattle.account.specs.ByRows.{meta_at, meta_end}
 use Rattle.account.proofs.Ways.{from_start, spans}
-use borrow.Author.Rules.{rules}
 use Rattle.account.proofs.with_node.Goals as goal
 
 pub overflow_sub-result : goal.overflow_sub-result

@@ -1,8 +1,6 @@
 -- `answer_files` is safe and ends: it passes one file after the other.
 -- Assumes nothing.
 use Prim.Native.Nat.{◌-◌}
-use native.Mathlib.Omega.{arith}
-use borrow.Author.Rules.{rules}
 use Rattle.asking.proofs.answer_files.Given as goal
 
 abbrev pub invariant-loop-i : goal.invariant-loop-i

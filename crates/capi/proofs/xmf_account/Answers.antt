@@ -1,7 +1,6 @@
 -- `xmf_account` leaves the outcome of the account, and stores its totals.
 -- Assumes nothing.
 use Rattle.capi.proofs.Calls.{account-leaves}
-use borrow.Author.Rules.{rules}
 use Rattle.capi.proofs.xmf_account.Goals as goal
 
 pub returns : goal.returns

@@ -2,7 +2,6 @@
 -- Assumes nothing.
 use Rattle.promises.specs.Calls.{correct-title}
 use Rattle.capi.proofs.Calls.{leaves}
-use borrow.Author.Rules.{rules}
 use Rattle.capi.proofs.xmf_correct_title.Goals as goal
 
 pub returns : goal.returns

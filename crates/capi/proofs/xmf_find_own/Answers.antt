@@ -3,7 +3,6 @@
 use Rattle.promises.specs.Promises.{find_own}
 use Rattle.promises.specs.Calls.{find-own}
 use Rattle.capi.proofs.Calls.{asks-standard, asks-custom, leaves}
-use borrow.Author.Rules.{rules}
 use Rattle.capi.proofs.xmf_find_own.Goals as goal
 
 pub returns-then-kind-eq0 : goal.returns-then-kind-eq0

@@ -3,7 +3,6 @@
 use mathlib.Core.List.{[]}
 use Rattle.promises.specs.Calls as calls
 use Rattle.capi.proofs.Calls.{leaves}
-use borrow.Author.Rules.{rules}
 use Rattle.capi.proofs.xmf_id3_count.Goals as goal
 
 pub returns : goal.returns

@@ -2,7 +2,6 @@
 -- Assumes nothing.
 use Rattle.promises.specs.Calls.{judge}
 use Rattle.capi.proofs.Calls.{leaves}
-use borrow.Author.Rules.{rules}
 use Rattle.capi.proofs.xmf_judge.Goals as goal
 
 pub returns : goal.returns

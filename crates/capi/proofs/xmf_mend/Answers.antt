@@ -2,7 +2,6 @@
 -- Assumes nothing.
 use Rattle.promises.specs.Calls.{mend-header}
 use Rattle.capi.proofs.Calls.{leaves}
-use borrow.Author.Rules.{rules}
 use Rattle.capi.proofs.xmf_mend.Goals as goal
 
 pub returns : goal.returns

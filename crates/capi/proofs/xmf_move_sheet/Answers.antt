@@ -3,7 +3,6 @@
 use mathlib.Core.List.{[]}
 use Rattle.promises.specs.Calls.{move-sheet}
 use Rattle.capi.proofs.Calls.{leaves}
-use borrow.Author.Rules.{rules}
 use Rattle.capi.proofs.xmf_move_sheet.Goals as goal
 
 pub returns : goal.returns

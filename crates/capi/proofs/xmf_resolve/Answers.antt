@@ -2,7 +2,6 @@
 -- Assumes nothing.
 use Rattle.promises.specs.Calls.{resolve-row}
 use Rattle.capi.proofs.Calls.{leaves}
-use borrow.Author.Rules.{rules}
 use Rattle.capi.proofs.xmf_resolve.Goals as goal
 
 pub returns : goal.returns

@@ -1,7 +1,6 @@
 -- `xmf_shelf_get` leaves what `get` leaves.
 -- Assumes nothing.
 use Rattle.capi.proofs.Calls.{sheet_leaves}
-use borrow.Author.Rules.{rules}
 use Rattle.capi.proofs.xmf_shelf_get.Goals as goal
 
 pub returns : goal.returns

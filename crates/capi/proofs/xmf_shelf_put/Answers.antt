@@ -4,7 +4,6 @@ use mathlib.Core.Path.{refl}
 use Rattle.shelf.specs.Shelf.{label}
 use Rattle.shelf.specs.Runs.{putting}
 use Rattle.capi.proofs.Calls.{shelf-leaves}
-use borrow.Author.Rules.{rules}
 use Rattle.capi.proofs.xmf_shelf_put.Goals as goal
 
 pub returns : goal.returns

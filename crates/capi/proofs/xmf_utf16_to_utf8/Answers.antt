@@ -3,7 +3,6 @@
 use mathlib.Core.List.{[]}
 use Rattle.promises.specs.Calls.{to-utf8}
 use Rattle.capi.proofs.Calls.{leaves}
-use borrow.Author.Rules.{rules}
 use Rattle.capi.proofs.xmf_utf16_to_utf8.Goals as goal
 
 pub returns : goal.returns

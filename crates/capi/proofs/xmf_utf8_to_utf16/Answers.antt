@@ -3,7 +3,6 @@
 use mathlib.Core.List.{[]}
 use Rattle.promises.specs.Calls.{to-utf16}
 use Rattle.capi.proofs.Calls.{leaves}
-use borrow.Author.Rules.{rules}
 use Rattle.capi.proofs.xmf_utf8_to_utf16.Goals as goal
 
 pub returns : goal.returns

@@ -2,7 +2,6 @@
 -- Assumes nothing.
 use Rattle.promises.specs.Calls.{write-sheet2}
 use Rattle.capi.proofs.Calls.{leaves}
-use borrow.Author.Rules.{rules}
 use Rattle.capi.proofs.xmf_write_sheet2.Goals as goal
 
 pub returns : goal.returns

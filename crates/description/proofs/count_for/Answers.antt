@@ -3,7 +3,6 @@
 use lib.ListN.{length, replicate}
 use mathlib.Core.Path.{◌∙◌, ap}
 use Rattle.description.proofs.Exits.{ends_unread, rows_inside, ends_refused, ends_count}
-use borrow.Author.Rules.{rules}
 use Rattle.description.proofs.count_for.Goals as goal
 
 pub count_row-requires : goal.count_row-requires

@@ -3,7 +3,6 @@
 use mathlib.Core.Bool.{not}
 use mathlib.Core.Path.{ap}
 use Rattle.description.proofs.Exits.{row_other, row-text, row_count}
-use borrow.Author.Rules.{rules}
 use Rattle.description.proofs.count_in.Goals as goal
 
 pub returns-then-not-is_field : goal.returns-then-not-is_field

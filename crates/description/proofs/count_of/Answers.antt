@@ -6,7 +6,6 @@ use Rattle.cursor.specs.Told.{number_told, pass_told}
 use Rattle.machine.proofs.Laws.{was}
 use Rattle.cursor.proofs.Leaves.{number-inside}
 use Rattle.description.proofs.Ways.{whole-message, whole-channels, whole-resources, whole-lists, whole-table}
-use borrow.Author.Rules.{rules}
 use Rattle.description.proofs.count_of.Goals as goal
 
 pub read_table-requires : goal.read_table-requires

@@ -1,6 +1,5 @@
 -- `count_row` gives what `count_row` gives.
 -- Assumes nothing.
-use native.Mathlib.Omega.{arith}
 use Rattle.file.proofs.Own.{row_in}
 use Rattle.description.proofs.Exits.{row-none, row-there}
 use Rattle.description.proofs.count_row.Goals as goal

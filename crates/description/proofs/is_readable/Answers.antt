@@ -4,7 +4,6 @@ use mathlib.Core.Path.{sym}
 use Rattle.machine.proofs.Laws.{was}
 use Rattle.description.specs.Told.{told}
 use Rattle.description.proofs.Ways.{readable_count, readable_refused}
-use borrow.Author.Rules.{rules}
 use Rattle.description.proofs.is_readable.Goals as goal
 
 pub returns-in-Count : goal.returns-in-Count

@@ -2,7 +2,6 @@
 -- Assumes nothing.
 use Rattle.description.proofs.Ways.{guid-cut, guid-all}
 use native.Mathlib.Omega.{arith}
-use borrow.Author.Rules.{rules}
 use Rattle.description.proofs.read_guid.Goals as goal
 
 pub returns-then-end-at : goal.returns-then-end-at

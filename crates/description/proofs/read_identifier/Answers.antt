@@ -4,7 +4,6 @@ use Rattle.cursor.specs.Rows.{meta_frame}
 use Rattle.cursor.specs.Told.{pass_told}
 use Rattle.machine.proofs.Laws.{was}
 use Rattle.description.proofs.Ways.{identifier-three, identifier-five, identifier-cut, identifier-two, identifier-one}
-use borrow.Author.Rules.{rules}
 use Rattle.description.proofs.read_identifier.Goals as goal
 
 pub returns-then-kind-eq3 : goal.returns-then-kind-eq3

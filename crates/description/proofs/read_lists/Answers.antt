@@ -3,7 +3,6 @@
 use Rattle.cursor.specs.Told.{number_told, pass_told}
 use Rattle.machine.proofs.Laws.{was}
 use Rattle.description.proofs.Ways.{lists-resource, lists-group, lists-all}
-use borrow.Author.Rules.{rules}
 use Rattle.description.proofs.read_lists.Goals as goal
 
 pub returns-in-Refused : goal.returns-in-Refused

@@ -2,14 +2,12 @@
 -- left of the item: there are no more turns than it has bytes, whatever the count.
 -- Assumes nothing.
 use mathlib.Core.Logic.{inl, inr}
-use Prim.Native.Nat.{◌-◌}
 use native.Mathlib.Omega.{arith}
 use Rattle.cursor.specs.Rows.{meta_frame}
 use Rattle.cursor.specs.Told.{number_told}
 use Rattle.machine.proofs.Laws.{was}
 use Rattle.cursor.proofs.Leaves.{number-inside}
-use Rattle.description.proofs.Ways.{Picking, numbers-begun, numbers-done, numbers-no, numbers_on}
-use borrow.Author.Rules.{rules}
+use Rattle.description.proofs.Ways.{numbers-begun, numbers-done, numbers-no, numbers_on}
 use Rattle.description.proofs.read_numbers.Goals as goal
 use Rattle.description.proofs.read_numbers.Goals.{then-i-index, else-i-index}
 

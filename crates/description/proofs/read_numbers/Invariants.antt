@@ -1,15 +1,8 @@
 -- `read_numbers` reads the numbers one by one and keeps one of them. The invariant: what is picked of all of them is picked of those that are left, or was kept. The measure is what is
 -- left of the item: there are no more turns than it has bytes, whatever the count.
 -- Assumes nothing.
-use mathlib.Core.Logic.{inl, inr}
 use Prim.Native.Nat.{◌-◌}
-use native.Mathlib.Omega.{arith}
-use Rattle.cursor.specs.Rows.{meta_frame}
-use Rattle.cursor.specs.Told.{number_told}
-use Rattle.machine.proofs.Laws.{was}
-use Rattle.cursor.proofs.Leaves.{number-inside}
-use Rattle.description.proofs.Ways.{Picking, numbers-begun, numbers-done, numbers-no, numbers_on}
-use borrow.Author.Rules.{rules}
+use Rattle.description.proofs.Ways.{Picking}
 use Rattle.description.proofs.read_numbers.Given as goal
 
 abbrev pub invariant-loop-i : goal.invariant-loop-i

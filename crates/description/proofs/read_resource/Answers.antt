@@ -4,7 +4,6 @@ use Rattle.cursor.specs.Rows.{meta_frame}
 use Rattle.cursor.specs.Told.{number_told}
 use Rattle.machine.proofs.Laws.{was}
 use Rattle.description.proofs.Ways.{resource-cut, resource-bad, resource-all}
-use borrow.Author.Rules.{rules}
 use Rattle.description.proofs.read_resource.Goals as goal
 
 pub returns-then-kind-gt5 : goal.returns-then-kind-gt5

@@ -2,12 +2,10 @@
 -- of the item: there are no more turns than it has bytes, whatever the count.
 -- Assumes nothing.
 use mathlib.Core.Path.{refl}
-use Prim.Native.Nat.{◌-◌}
 use native.Mathlib.Omega.{arith}
 use Rattle.cursor.specs.Told.{pass_told}
 use Rattle.machine.proofs.Laws.{was}
-use Rattle.description.proofs.Ways.{Going, resources-done, resources-no, resources-on, resource-further}
-use borrow.Author.Rules.{rules}
+use Rattle.description.proofs.Ways.{resources-done, resources-no, resources-on, resource-further}
 use Rattle.description.proofs.read_resources.Goals as goal
 
 pub loop-left-init : goal.loop-left-init

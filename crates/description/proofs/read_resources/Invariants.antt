@@ -1,13 +1,8 @@
 -- `read_resources` reads the resources one by one. The invariant: what is left of them is the whole. Each turn reads a byte of the item or more, so the measure is what is left
 -- of the item: there are no more turns than it has bytes, whatever the count.
 -- Assumes nothing.
-use mathlib.Core.Path.{refl}
 use Prim.Native.Nat.{◌-◌}
-use native.Mathlib.Omega.{arith}
-use Rattle.cursor.specs.Told.{pass_told}
-use Rattle.machine.proofs.Laws.{was}
-use Rattle.description.proofs.Ways.{Going, resources-done, resources-no, resources-on, resource-further}
-use borrow.Author.Rules.{rules}
+use Rattle.description.proofs.Ways.{Going}
 use Rattle.description.proofs.read_resources.Given as goal
 
 abbrev pub invariant-loop-left : goal.invariant-loop-left

@@ -4,7 +4,6 @@ use native.Mathlib.Omega.{arith}
 use Rattle.cursor.specs.Told.{number_told}
 use Rattle.machine.proofs.Laws.{was}
 use Rattle.description.proofs.Ways.{product, table-cut, table-left, table-channel, table-resource, table-count}
-use borrow.Author.Rules.{rules}
 use Rattle.description.proofs.read_table.Goals as goal
 
 pub overflow_mul-channels : goal.overflow_mul-channels

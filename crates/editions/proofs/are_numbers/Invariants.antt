@@ -1,15 +1,10 @@
 -- `are_numbers` judges the numbers one by one. The invariant: what is left of them is the whole.
 -- Assumes nothing.
-use mathlib.Core.Path.{◌≡◌, refl, sym, ◌∙◌}
+use mathlib.Core.Path.{◌≡◌}
 use Prim.Native.Nat.{◌≤◌, ◌<◌}
 use lib.ListN.{length, replicate}
-use native.Mathlib.Omega.{arith}
 use Rattle.editions.specs.Sheets.{is_number, fits}
 use Rattle.editions.specs.Reads.{fields_at}
-use Rattle.editions.specs.Told.{NumberAt}
-use Rattle.editions.proofs.Places.{next-piece, as_told}
-use Rattle.editions.proofs.Fields.{numbers-no, numbers_on, numbers_more, numbers-last}
-use borrow.Author.Rules.{rules}
 use Rattle.editions.proofs.are_numbers.Given as goal
 
 abbrev pub invariant-loop-left : goal.invariant-loop-left

@@ -2,7 +2,6 @@
 -- Assumes nothing.
 use native.Mathlib.Omega.{arith}
 use Rattle.editions.proofs.Texts.{escape_great, escape_plain, escape_high, escape_low}
-use borrow.Author.Rules.{rules}
 use Rattle.editions.proofs.is_escape.Goals as goal
 
 pub overflow_mul-v : goal.overflow_mul-v

@@ -1,7 +1,6 @@
 -- `is_itself` judges a byte.
 -- Assumes nothing.
 use Rattle.editions.proofs.Texts.{itself-plain, itself-two, itself-not}
-use borrow.Author.Rules.{rules}
 use Rattle.editions.proofs.is_itself.Goals as goal
 
 pub returns-then-is_plain : goal.returns-then-is_plain

@@ -4,7 +4,6 @@ use native.Mathlib.Omega.{arith}
 use Rattle.editions.specs.Told.{NumberAt, NameAt}
 use Rattle.editions.proofs.Places.{as_told}
 use Rattle.editions.proofs.Fields.{label-room, label-none, standard-no, standard-is, custom-no, custom-is}
-use borrow.Author.Rules.{rules}
 use Rattle.editions.proofs.is_labelled.Goals as goal
 
 pub overflow_add-at : goal.overflow_add-at

@@ -4,7 +4,6 @@ use native.Mathlib.Omega.{arith}
 use Rattle.editions.specs.Told.{NumberAt}
 use Rattle.editions.proofs.Places.{next-piece, as_told}
 use Rattle.editions.proofs.Fields.{tail-first, tail-second, tail-odd, tail_more, tail-last}
-use borrow.Author.Rules.{rules}
 use Rattle.editions.proofs.is_tail.Goals as goal
 
 pub number_field-requires-in-Is : goal.number_field-requires-in-Is

@@ -1,11 +1,8 @@
 -- `is_text` judges a text. The invariant: what is left of it is the whole.
 -- Assumes nothing.
 use mathlib.Core.Path.{refl}
-use Prim.Native.Nat.{◌-◌}
 use native.Mathlib.Omega.{arith}
-use Rattle.editions.proofs.Fields.{not-true, not-false}
-use Rattle.editions.proofs.Texts.{Spelling, spelled-cut, spelled-bad, spelled-three, spelled-no, spelled-one, spelled-all}
-use borrow.Author.Rules.{rules}
+use Rattle.editions.proofs.Texts.{spelled-cut, spelled-bad, spelled-three, spelled-no, spelled-one, spelled-all}
 use Rattle.editions.proofs.is_text.Goals as goal
 
 pub loop-i-init : goal.loop-i-init

@@ -1,7 +1,6 @@
 -- `is_version` judges a version.
 -- Assumes nothing.
 use Rattle.editions.proofs.First.{version-long, version-dot, version-zero, version-two, version-none, version-first, version-second}
-use borrow.Author.Rules.{rules}
 use Rattle.editions.proofs.is_version.Goals as goal
 
 pub returns-then-end-from-ne4 : goal.returns-then-end-from-ne4

@@ -6,7 +6,6 @@ use Rattle.machine.proofs.Laws.{was}
 use Rattle.editions.specs.Told.{LeadAt, body_told}
 use Rattle.editions.proofs.Places.{next-piece, as_told}
 use Rattle.editions.proofs.Judging.{lent, one_line_lem, no_lead, bad-body, bad-nodes, bad-items, well}
-use borrow.Author.Rules.{rules}
 use Rattle.editions.proofs.judge.Goals as goal
 
 pub returns-then-sheet-stop : goal.returns-then-sheet-stop

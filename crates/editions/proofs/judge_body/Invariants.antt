@@ -1,14 +1,8 @@
 -- `judge_body` judges the lines behind the first. The invariant: what is left of them is the whole; there are no more nodes, items and lines than bytes.
 -- Assumes nothing.
-use mathlib.Core.Path.{refl, sym}
 use Prim.Native.Nat.{◌-◌}
 use lib.ListN.{length}
-use native.Mathlib.Omega.{arith}
-use Rattle.machine.proofs.Laws.{was}
-use Rattle.editions.specs.Told.{step_told}
-use Rattle.editions.proofs.Places.{next-piece}
-use Rattle.editions.proofs.Judging.{Judging, lent, judged-all, judged-unended, judged-no, judged-on}
-use borrow.Author.Rules.{rules}
+use Rattle.editions.proofs.Judging.{Judging}
 use Rattle.editions.proofs.judge_body.Given as goal
 
 abbrev pub invariant-loop-at : goal.invariant-loop-at

@@ -2,7 +2,6 @@
 -- Assumes nothing.
 use mathlib.Core.Path.{refl}
 use Rattle.editions.proofs.Fields.{letter-few, letter-apart, letter-is}
-use borrow.Author.Rules.{rules}
 use Rattle.editions.proofs.letter.Goals as goal
 
 pub returns-then-line-at-lt2 : goal.returns-then-line-at-lt2

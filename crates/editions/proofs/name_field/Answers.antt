@@ -3,9 +3,8 @@
 use native.Mathlib.Omega.{arith}
 use Rattle.editions.specs.Sheets.{is_name}
 use Rattle.editions.proofs.Places.{next-piece}
-use Rattle.editions.proofs.Fields.{no_other, not-true, not-false}
+use Rattle.editions.proofs.Fields.{no_other}
 use Rattle.editions.proofs.Texts.{name-none, name-bad, name-is}
-use borrow.Author.Rules.{rules}
 use Rattle.editions.proofs.name_field.Goals as goal
 
 pub returns-then-line-end : goal.returns-then-line-end

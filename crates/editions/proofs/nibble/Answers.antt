@@ -2,7 +2,6 @@
 -- Assumes nothing.
 use native.Mathlib.Omega.{arith}
 use Rattle.editions.proofs.Texts.{nibble-none, nibble-digit, nibble-letter}
-use borrow.Author.Rules.{rules}
 use Rattle.editions.proofs.nibble.Goals as goal
 
 pub returns-then-v-lt48 : goal.returns-then-v-lt48

@@ -4,7 +4,6 @@ use native.Mathlib.Omega.{arith}
 use Rattle.editions.specs.Sheets.{is_number}
 use Rattle.editions.proofs.Places.{next-piece}
 use Rattle.editions.proofs.Fields.{no_other, number-no, number_is}
-use borrow.Author.Rules.{rules}
 use Rattle.editions.proofs.number_field.Goals as goal
 
 pub returns-then-line-end : goal.returns-then-line-end

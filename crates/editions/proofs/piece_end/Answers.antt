@@ -1,9 +1,6 @@
 -- `piece_end` finds the end of a piece. The invariant: what is left of the piece begins at i.
 -- Assumes nothing.
-use Prim.Native.Nat.{◌-◌}
-use lib.ListN.{length}
-use native.Mathlib.Omega.{arith}
-use Rattle.editions.proofs.Numbers.{Seeking, sought_here, sought_on, sought_end}
+use Rattle.editions.proofs.Numbers.{sought_here, sought_on, sought_end}
 use Rattle.editions.proofs.piece_end.Goals as goal
 
 pub returns-then-text-i : goal.returns-then-text-i

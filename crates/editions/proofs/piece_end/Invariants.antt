@@ -2,8 +2,7 @@
 -- Assumes nothing.
 use Prim.Native.Nat.{◌-◌}
 use lib.ListN.{length}
-use native.Mathlib.Omega.{arith}
-use Rattle.editions.proofs.Numbers.{Seeking, sought_here, sought_on, sought_end}
+use Rattle.editions.proofs.Numbers.{Seeking}
 use Rattle.editions.proofs.piece_end.Given as goal
 
 abbrev pub invariant-loop-i : goal.invariant-loop-i

@@ -3,9 +3,7 @@
 use native.Mathlib.Omega.{arith}
 use Rattle.editions.specs.Told.{NumberAt}
 use Rattle.editions.proofs.Places.{next-piece, as_told}
-use Rattle.editions.proofs.Fields.{not-true, not-false}
 use Rattle.editions.proofs.First.{lead-short, lead-version, lead-length, lead-nodes, lead-more, lead-items, lead_is}
-use borrow.Author.Rules.{rules}
 use Rattle.editions.proofs.read_counts.Goals as goal
 
 pub piece_end-end-requires : goal.piece_end-end-requires

@@ -3,7 +3,6 @@
 use Rattle.editions.specs.Told.{WordAt}
 use Rattle.editions.proofs.Places.{as_told}
 use Rattle.editions.proofs.First.{lead-none}
-use borrow.Author.Rules.{rules}
 use Rattle.editions.proofs.read_first.Goals as goal
 
 pub read_counts-requires : goal.read_counts-requires

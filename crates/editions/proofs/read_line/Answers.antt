@@ -4,7 +4,6 @@ use native.Mathlib.Omega.{arith}
 use Rattle.editions.specs.Told.{NumberAt}
 use Rattle.editions.proofs.Places.{as_told}
 use Rattle.editions.proofs.Fields.{label-room, line-none, node-no, node-bad, node-is, item-no, item-bad, item-is}
-use borrow.Author.Rules.{rules}
 use Rattle.editions.proofs.read_line.Goals as goal
 
 pub number_field-requires : goal.number_field-requires

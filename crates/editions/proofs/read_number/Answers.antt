@@ -1,9 +1,7 @@
 -- `read_number` reads a field's number. The invariant: v is what the digits before i say, in 01's spelling.
 -- Assumes nothing.
-use Prim.Native.Nat.{◌-◌}
 use native.Mathlib.Omega.{arith}
-use Rattle.editions.proofs.Numbers.{Digit, digit_start, digit_small, digit_low, digit_high, digit_over, digit_on, digit_end, field-none, field-zero, field-padded}
-use borrow.Author.Rules.{rules}
+use Rattle.editions.proofs.Numbers.{digit_start, digit_small, digit_low, digit_high, digit_over, digit_on, digit_end, field-none, field-zero, field-padded}
 use Rattle.editions.proofs.read_number.Goals as goal
 
 pub returns-then-end-from : goal.returns-then-end-from

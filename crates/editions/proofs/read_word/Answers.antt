@@ -1,7 +1,6 @@
 -- `read_word` reads the first word.
 -- Assumes nothing.
 use Rattle.editions.proofs.First.{word-short, word-x, word-m, word-f, word-fourth, word-five, word-fifth, word_first, word-second}
-use borrow.Author.Rules.{rules}
 use Rattle.editions.proofs.read_word.Goals as goal
 
 pub returns-then-line-lt4 : goal.returns-then-line-lt4

@@ -3,7 +3,6 @@
 use mathlib.Core.Path.{ap}
 use Rattle.editions.specs.Told.{line_told}
 use Rattle.editions.proofs.Judging.{node-apart, node-second, node-late, node-first, item_back, item-absent, item_on, no_line}
-use borrow.Author.Rules.{rules}
 use Rattle.editions.proofs.step.Goals as goal
 
 pub returns-then-k-t : goal.returns-then-k-t

@@ -1,13 +1,8 @@
 -- `follow_all` leaves what `follow` leaves. The invariant: what is left of the rows comes to what the whole comes to.
 -- Assumes nothing.
 use mathlib.Core.Path.{refl, ◌∙◌}
-use Prim.Native.Nat.{◌-◌}
-use lib.ListN.{length}
-use mathlib.Core.Path.{◌≡◌}
-use Rattle.header.specs.Told.{header_of}
-use Rattle.file.proofs.Growing.{stand_few, stand_inside, Follows, follows_begun, follows_spanned, follows_no, follows_next, follows_on, follows_done}
+use Rattle.file.proofs.Growing.{stand_few, stand_inside, follows_begun, follows_spanned, follows_no, follows_next, follows_on, follows_done}
 use native.Mathlib.Omega.{arith}
-use borrow.Author.Rules.{rules}
 use Rattle.file.proofs.follow_all.Goals as goal
 
 pub loop-i-init : goal.loop-i-init

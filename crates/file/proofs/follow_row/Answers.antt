@@ -7,7 +7,6 @@ use Rattle.header.specs.Told.{header_of}
 use Rattle.file.proofs.Growing.{stand_few, stand_rising, stand_inside, stand_attached, part_in, reach_other, reach_known, reach_nowhere, reach_node}
 use Rattle.targets.proofs.Targets.{part-past, row-asked, asked-found, asked-none, asked-taken}
 use native.Mathlib.Omega.{arith}
-use borrow.Author.Rules.{rules}
 use Rattle.file.proofs.follow_row.Goals as goal
 
 pub node_at-row-requires : goal.node_at-row-requires

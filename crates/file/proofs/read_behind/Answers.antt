@@ -1,10 +1,8 @@
 -- `read_behind` leaves answer and tables as `read_tree` says, under a header that was read: filled, and cleared behind the rows; on a refusal, cleared.
 -- Assumes nothing.
-use mathlib.Core.Path.{◌∙◌}
 use Rattle.header.specs.Told.{header_of}
 use Rattle.file.proofs.Whole.{whole-stands, whole-fits, whole-good, whole-lost, whole-refused, whole_room}
 use native.Mathlib.Omega.{arith}
-use borrow.Author.Rules.{rules}
 use Rattle.file.proofs.read_behind.Goals as goal
 
 pub read_root-requires : goal.read_root-requires

@@ -2,7 +2,6 @@
 -- Assumes nothing.
 use Rattle.file.proofs.Whole.{header_is, header-no, few, whole-header, whole-behind, whole-within}
 use native.Mathlib.Omega.{arith}
-use borrow.Author.Rules.{rules}
 use Rattle.file.proofs.read_file.Goals as goal
 
 pub read_behind-requires : goal.read_behind-requires

@@ -2,7 +2,6 @@
 -- Assumes nothing.
 use Rattle.tree.proofs.Nodes.{root_is}
 use native.Mathlib.Omega.{arith}
-use borrow.Author.Rules.{rules}
 use Rattle.file.proofs.read_root.Goals as goal
 
 pub read_children-requires : goal.read_children-requires

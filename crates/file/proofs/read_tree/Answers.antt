@@ -1,7 +1,6 @@
 -- `read_tree` gives what `answer_of` gives of the file's reading.
 -- Assumes nothing.
 use Rattle.file.proofs.Whole.{tree_is, tree-no}
-use borrow.Author.Rules.{rules}
 use Rattle.file.proofs.read_tree.Goals as goal
 
 pub returns-in-Refused : goal.returns-in-Refused

@@ -3,8 +3,6 @@
 use Rattle.find.specs.Told.{wanted_of}
 use Rattle.find.proofs.Climbing.{own-rows, own-end, own_first, climb_here, climb_top, climb_up}
 use native.Mathlib.Omega.{arith}
-use borrow.Author.Rules.{rules}
-use Prim.Native.Nat.{ℕ, ◌<◌}
 use Rattle.find.proofs.+climb.Goals as goal
 
 pub node_at-row-requires : goal.node_at-row-requires

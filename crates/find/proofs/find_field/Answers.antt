@@ -9,7 +9,6 @@ use Rattle.file.proofs.Rows.{standing}
 use Rattle.file.proofs.Own.{tables}
 use Rattle.find.specs.Told.{wanted_of}
 use Rattle.find.proofs.Climbing.{says-refused, says-no_row, says-no_item, says-item}
-use borrow.Author.Rules.{rules}
 use Rattle.find.proofs.find_field.Goals as goal
 
 pub returns-then-s-row : goal.returns-then-s-row

@@ -1,7 +1,6 @@
 -- `is_wanted` says what `matches` says of either field.
 -- Assumes nothing.
 use Rattle.find.proofs.Matching.{wanted_kind, wanted_field, wanted_name}
-use borrow.Author.Rules.{rules}
 use Rattle.find.proofs.is_wanted.Goals as goal
 
 pub returns-then-row-ne0 : goal.returns-then-row-ne0

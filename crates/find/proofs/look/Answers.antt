@@ -1,11 +1,8 @@
 -- `look` gives the first row of the field in the run. The invariant: what is left of the look is the whole.
 -- Assumes nothing.
-use mathlib.Core.Path.{◌≡◌, refl}
-use Prim.Native.Nat.{◌-◌}
-use Rattle.rows.specs.Rows.{items_in}
+use mathlib.Core.Path.{refl}
 use Rattle.file.proofs.Own.{row_in}
-use Rattle.find.specs.Told.{wanted_of}
-use Rattle.find.proofs.Looking.{looked, row-found, row_other, row-none}
+use Rattle.find.proofs.Looking.{row-found, row_other, row-none}
 use native.Mathlib.Omega.{arith}
 use Rattle.find.proofs.look.Goals as goal
 

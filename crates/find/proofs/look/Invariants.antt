@@ -1,12 +1,10 @@
 -- `look` gives the first row of the field in the run. The invariant: what is left of the look is the whole.
 -- Assumes nothing.
-use mathlib.Core.Path.{◌≡◌, refl}
+use mathlib.Core.Path.{◌≡◌}
 use Prim.Native.Nat.{◌-◌}
 use Rattle.rows.specs.Rows.{items_in}
-use Rattle.file.proofs.Own.{row_in}
 use Rattle.find.specs.Told.{wanted_of}
-use Rattle.find.proofs.Looking.{looked, row-found, row_other, row-none}
-use native.Mathlib.Omega.{arith}
+use Rattle.find.proofs.Looking.{looked}
 use Rattle.find.proofs.look.Given as goal
 
 abbrev pub invariant-loop-i : goal.invariant-loop-i

@@ -1,7 +1,6 @@
 -- `rows_end` counts back to the row behind node k's own. The invariant: the item rows of the nodes before row i end there.
 -- Assumes nothing.
-use Prim.Native.Nat.{◌<◌, ◌≤◌, ◌-◌}
-use Rattle.find.proofs.Climbing.{EndsAt, back-rows, back_one}
+use Rattle.find.proofs.Climbing.{back-rows, back_one}
 use mathlib.Core.Path.{ap, ◌∙◌}
 use Rattle.rows.specs.Rows.{nodes_in}
 use Rattle.file.specs.Own.{first_row}

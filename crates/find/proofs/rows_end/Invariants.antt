@@ -1,11 +1,7 @@
 -- `rows_end` counts back to the row behind node k's own. The invariant: the item rows of the nodes before row i end there.
 -- Assumes nothing.
 use Prim.Native.Nat.{◌<◌, ◌≤◌, ◌-◌}
-use Rattle.find.proofs.Climbing.{EndsAt, back-rows, back_one}
-use mathlib.Core.Path.{ap, ◌∙◌}
-use Rattle.rows.specs.Rows.{nodes_in}
-use Rattle.file.specs.Own.{first_row}
-use native.Mathlib.Omega.{arith}
+use Rattle.find.proofs.Climbing.{EndsAt}
 use Rattle.find.proofs.rows_end.Given as goal
 
 abbrev pub invariant-loop-i : goal.invariant-loop-i

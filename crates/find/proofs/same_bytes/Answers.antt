@@ -1,8 +1,6 @@
 -- `same_bytes` says what `same_bytes` says. The invariant: what is left of the comparison is the whole.
 -- Assumes nothing.
-use Prim.Native.Nat.{◌-◌, ◌≤◌}
-use lib.ListN.{length}
-use Rattle.find.proofs.Matching.{Comparing, bytes-begin, bytes-differ, bytes_on, bytes-all}
+use Rattle.find.proofs.Matching.{bytes-begin, bytes-differ, bytes_on, bytes-all}
 use native.Mathlib.Omega.{arith}
 use Rattle.find.proofs.same_bytes.Goals as goal
 

@@ -2,8 +2,7 @@
 -- Assumes nothing.
 use Prim.Native.Nat.{◌-◌, ◌≤◌}
 use lib.ListN.{length}
-use Rattle.find.proofs.Matching.{Comparing, bytes-begin, bytes-differ, bytes_on, bytes-all}
-use native.Mathlib.Omega.{arith}
+use Rattle.find.proofs.Matching.{Comparing}
 use Rattle.find.proofs.same_bytes.Given as goal
 
 abbrev pub invariant-loop-i : goal.invariant-loop-i

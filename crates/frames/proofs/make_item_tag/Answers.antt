@@ -4,7 +4,6 @@ use mathlib.Core.Path.{refl}
 use Rattle.lines.proofs.Ending.{gives_as}
 use Rattle.needs.proofs.Needing.{nothing-printed}
 use Rattle.frames.proofs.Tagging.{tag-kept, tag-lent}
-use borrow.Author.Rules.{rules}
 use Rattle.frames.proofs.make_item_tag.Goals as goal
 
 pub returns-then-is_withheld : goal.returns-then-is_withheld

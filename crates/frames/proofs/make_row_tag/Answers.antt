@@ -6,7 +6,6 @@ use Rattle.file.proofs.Own.{item-rows}
 use Rattle.frames.specs.Tags.{shown_tag, row_tag_answer}
 use Rattle.lines.proofs.Ending.{gives_as}
 use Rattle.needs.proofs.Needing.{of_unread, of_past, of_row_lem}
-use borrow.Author.Rules.{rules}
 use Rattle.frames.proofs.make_row_tag.Goals as goal
 
 pub returns-then-s-row : goal.returns-then-s-row

@@ -1,7 +1,6 @@
 -- `make_tag` answers the frames of a tag, or the refusal.
 -- Assumes nothing.
 use Rattle.frames.specs.Tags.{tag_answer}
-use borrow.Author.Rules.{rules}
 use Rattle.frames.proofs.make_tag.Goals as goal
 
 pub returns : goal.returns

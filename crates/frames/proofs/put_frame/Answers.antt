@@ -2,7 +2,6 @@
 -- Assumes nothing.
 use Rattle.room.proofs.Counting.{counts-then, counts-as}
 use Rattle.frames.proofs.Tagging.{frame_is}
-use borrow.Author.Rules.{rules}
 use Rattle.frames.proofs.put_frame.Goals as goal
 
 pub returns : goal.returns

@@ -1,12 +1,8 @@
 -- `put_frames` puts the lines of all frames. The invariant: those of the frames before frame i were put.
 -- Assumes nothing.
 use mathlib.Core.Path.{refl}
-use Prim.Native.Nat.{◌-◌, ◌≤◌}
 use native.Mathlib.Omega.{arith}
-use Rattle.frames.proofs.Tagging.{Framing, framing_refused, framing_start, framing_no, framing_on, framing_end}
-use borrow.Author.Rules.{rules}
-use borrow.Author.Rules.{rules}
-use borrow.Author.Rules.{rules}
+use Rattle.frames.proofs.Tagging.{framing_refused, framing_start, framing_no, framing_on, framing_end}
 use Rattle.frames.proofs.put_frames.Goals as goal
 
 pub loop-i-init : goal.loop-i-init

@@ -1,12 +1,7 @@
 -- `put_frames` puts the lines of all frames. The invariant: those of the frames before frame i were put.
 -- Assumes nothing.
-use mathlib.Core.Path.{refl}
 use Prim.Native.Nat.{◌-◌, ◌≤◌}
-use native.Mathlib.Omega.{arith}
-use Rattle.frames.proofs.Tagging.{Framing, framing_refused, framing_start, framing_no, framing_on, framing_end}
-use borrow.Author.Rules.{rules}
-use borrow.Author.Rules.{rules}
-use borrow.Author.Rules.{rules}
+use Rattle.frames.proofs.Tagging.{Framing}
 use Rattle.frames.proofs.put_frames.Given as goal
 
 abbrev pub invariant-loop-i : goal.invariant-loop-i

@@ -2,7 +2,6 @@
 -- Assumes nothing.
 use mathlib.Core.Path.{refl}
 use Rattle.frames.proofs.Tagging.{one-bad, one-good}
-use borrow.Author.Rules.{rules}
 use Rattle.frames.proofs.put_one.Goals as goal
 
 pub returns-in-Refused : goal.returns-in-Refused

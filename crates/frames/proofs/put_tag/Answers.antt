@@ -2,7 +2,6 @@
 -- Assumes nothing.
 use Rattle.needs.proofs.Needing.{puts-as}
 use Rattle.frames.proofs.Tagging.{tag-all, tag_one}
-use borrow.Author.Rules.{rules}
 use Rattle.frames.proofs.put_tag.Goals as goal
 
 pub returns-in-All : goal.returns-in-All

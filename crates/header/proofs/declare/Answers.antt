@@ -3,7 +3,6 @@
 use Rattle.header.proofs.Types.{declared}
 use native.Mathlib.Omega.{arith}
 use lib.ListN.{length-set}
-use borrow.Author.Rules.{rules}
 use Rattle.header.proofs.declare.Goals as goal
 
 pub bounds-types-count-2 : goal.bounds-types-count-2

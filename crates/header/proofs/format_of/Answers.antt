@@ -1,8 +1,7 @@
 -- `format_of` finds the first declaration of a type. The invariant: what is left of the search is the whole.
 -- Assumes nothing.
-use Rattle.header.proofs.Types.{Searching, begin, found, on, nothing}
+use Rattle.header.proofs.Types.{begin, found, on, nothing}
 use native.Mathlib.Omega.{arith}
-use Prim.Native.Nat.{◌-◌, ◌≤◌}
 use Rattle.header.proofs.format_of.Goals as goal
 
 pub loop-i-init : goal.loop-i-init

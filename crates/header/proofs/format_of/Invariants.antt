@@ -1,7 +1,6 @@
 -- `format_of` finds the first declaration of a type. The invariant: what is left of the search is the whole.
 -- Assumes nothing.
-use Rattle.header.proofs.Types.{Searching, begin, found, on, nothing}
-use native.Mathlib.Omega.{arith}
+use Rattle.header.proofs.Types.{Searching}
 use Prim.Native.Nat.{◌-◌, ◌≤◌}
 use Rattle.header.proofs.format_of.Given as goal
 

@@ -8,7 +8,6 @@ use Rattle.machine.proofs.Wp.{at_end}
 use Rattle.header.proofs.Ends.{four-on}
 use Rattle.header.proofs.Ways.{edition-none, edition-type, edition-revision, edition-all}
 use native.Mathlib.Omega.{arith}
-use borrow.Author.Rules.{rules}
 use Rattle.header.proofs.read_edition.Goals as goal
 
 pub returns-then-version-ne200 : goal.returns-then-version-ne200

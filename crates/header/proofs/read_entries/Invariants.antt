@@ -1,10 +1,8 @@
 -- `read_entries` reads the entries one after the other. The invariant: what is left of them is the whole, and no more than 32 are made.
 -- Assumes nothing.
-use mathlib.Core.Path.{◌≡◌, refl, ◌∙◌}
+use mathlib.Core.Path.{◌≡◌}
 use lib.ListN.{length}
-use Rattle.header.proofs.Ways.{Entries, entries-begun, entries-done, entries-no, entries-on}
-use native.Mathlib.Omega.{arith}
-use borrow.Author.Rules.{rules}
+use Rattle.header.proofs.Ways.{Entries}
 use Rattle.header.proofs.read_entries.Given as goal
 
 abbrev pub invariant-loop-left : goal.invariant-loop-left

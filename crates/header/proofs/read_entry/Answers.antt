@@ -8,7 +8,6 @@ use Rattle.header.specs.Types.{found_told}
 use Rattle.header.proofs.Types.{types-length}
 use Rattle.header.proofs.Ways.{entry-type, entry-full, entry-twice, entry-format, entry-language, entry-all}
 use native.Mathlib.Omega.{arith}
-use borrow.Author.Rules.{rules}
 use Rattle.header.proofs.read_entry.Goals as goal
 
 pub returns-then-count-ge-MOST_TYPES : goal.returns-then-count-ge-MOST_TYPES

@@ -4,7 +4,6 @@ use Rattle.cursor.specs.Rows.{file_frame}
 use Rattle.cursor.specs.Told.{number_told}
 use Rattle.machine.proofs.Laws.{was}
 use Rattle.header.proofs.Ways.{extent-start, extent-last, extent-before, extent-turned, extent-past, extent-all}
-use borrow.Author.Rules.{rules}
 use Rattle.header.proofs.read_extent.Goals as goal
 
 pub returns-then-start-end : goal.returns-then-start-end

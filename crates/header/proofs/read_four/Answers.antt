@@ -2,7 +2,6 @@
 -- Assumes nothing.
 use Rattle.header.proofs.Ways.{four-cut, four-all}
 use native.Mathlib.Omega.{arith}
-use borrow.Author.Rules.{rules}
 use Rattle.header.proofs.read_four.Goals as goal
 
 pub returns-then-end-at-lt4 : goal.returns-then-end-at-lt4

@@ -9,7 +9,6 @@ use Rattle.header.specs.Told.{edition_told, extent_told}
 use Rattle.header.proofs.Ends.{opening_on}
 use Rattle.header.proofs.Ways.{types-counted, types-refused, listed, header-opening, header-edition, header-length, header-types, header-extent, header-all}
 use native.Mathlib.Omega.{arith}
-use borrow.Author.Rules.{rules}
 use Rattle.header.proofs.read_header.Goals as goal
 
 pub read_edition-requires : goal.read_edition-requires

@@ -4,7 +4,6 @@ use Rattle.cursor.specs.Rows.{file_frame}
 use Rattle.cursor.specs.Told.{number_told}
 use Rattle.machine.proofs.Laws.{was}
 use Rattle.header.proofs.Ways.{length-no, length-other, length-is}
-use borrow.Author.Rules.{rules}
 use Rattle.header.proofs.read_length.Goals as goal
 
 pub returns-then-n-size : goal.returns-then-n-size

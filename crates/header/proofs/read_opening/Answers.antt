@@ -8,7 +8,6 @@ use Rattle.header.proofs.Ends.{four-on}
 use Rattle.header.proofs.Ways.{opening-large, opening-short, opening-cut, opening-other, opening-version, opening-100, opening-101, opening-200, opening-none}
 use lib.ListN.{length}
 use native.Mathlib.Omega.{arith}
-use borrow.Author.Rules.{rules}
 use Rattle.header.proofs.read_opening.Goals as goal
 
 pub returns-then-size-gt268435455 : goal.returns-then-size-gt268435455

@@ -6,7 +6,6 @@ use Rattle.machine.proofs.Laws.{was}
 use Rattle.cursor.proofs.Leaves.{block_inside}
 use Rattle.header.proofs.Ways.{types-counted, types-refused, listed, types-block, types-count, types-entries, types-left, types-all}
 use native.Mathlib.Omega.{arith}
-use borrow.Author.Rules.{rules}
 use Rattle.header.proofs.read_types.Goals as goal
 
 pub on-requires : goal.on-requires

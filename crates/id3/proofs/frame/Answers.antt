@@ -4,7 +4,6 @@ use mathlib.Core.Path.{sym}
 use Rattle.machine.proofs.Laws.{was}
 use Rattle.id3.specs.Told.{walk_told}
 use Rattle.id3.proofs.Ways.{at_no, at_none, at_all}
-use borrow.Author.Rules.{rules}
 use Rattle.id3.proofs.frame.Goals as goal
 
 pub returns-then-count-number : goal.returns-then-count-number

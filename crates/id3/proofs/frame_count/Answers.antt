@@ -4,7 +4,6 @@ use mathlib.Core.Path.{sym}
 use Rattle.machine.proofs.Laws.{was}
 use Rattle.id3.specs.Told.{walk_told}
 use Rattle.id3.proofs.Ways.{count_no, count-all}
-use borrow.Author.Rules.{rules}
 use Rattle.id3.proofs.frame_count.Goals as goal
 
 pub returns-in-Refused : goal.returns-in-Refused

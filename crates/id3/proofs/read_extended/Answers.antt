@@ -4,7 +4,6 @@ use native.Mathlib.Omega.{arith}
 use Rattle.cursor.specs.Told.{number_told}
 use Rattle.machine.proofs.Laws.{was}
 use Rattle.id3.proofs.Ways.{extended-cut, extended-short, extended-past, extended-all}
-use borrow.Author.Rules.{rules}
 use Rattle.id3.proofs.read_extended.Goals as goal
 
 pub returns-then-size-lt6 : goal.returns-then-size-lt6

@@ -4,7 +4,6 @@ use native.Mathlib.Omega.{arith}
 use Rattle.cursor.specs.Told.{number_told}
 use Rattle.machine.proofs.Laws.{was}
 use Rattle.id3.proofs.Ways.{from-four, frame-cut, frame-size, frame_past, frame-flags, frame-unsynchronised, frame-all}
-use borrow.Author.Rules.{rules}
 use Rattle.id3.proofs.read_frame.Goals as goal
 
 pub returns-then-left-lt4 : goal.returns-then-left-lt4

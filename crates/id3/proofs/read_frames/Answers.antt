@@ -2,12 +2,10 @@
 -- if it is among them; no frame is shorter than a byte. The measure is what is left of the tag.
 -- Assumes nothing.
 use mathlib.Core.Logic.{inl, inr}
-use Prim.Native.Nat.{◌-◌, ◌≤◌}
 use native.Mathlib.Omega.{arith}
 use Rattle.machine.proofs.Laws.{was}
 use Rattle.id3.specs.Told.{read_told}
-use Rattle.id3.proofs.Ways.{Walking, walk-begun, walk-done, walk-padding, walk_no, walk-on, further}
-use borrow.Author.Rules.{rules}
+use Rattle.id3.proofs.Ways.{walk-begun, walk-done, walk-padding, walk_no, walk-on, further}
 use Rattle.id3.proofs.read_frames.Goals as goal
 use Rattle.id3.proofs.read_frames.Goals.{then-count-want, else-count-want}
 

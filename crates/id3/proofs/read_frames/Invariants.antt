@@ -1,13 +1,8 @@
 -- `read_frames` counts the frames and keeps the one asked for. The invariant: what is left of them, behind those so far, is the whole; these are counted, and the one was kept
 -- if it is among them; no frame is shorter than a byte. The measure is what is left of the tag.
 -- Assumes nothing.
-use mathlib.Core.Logic.{inl, inr}
 use Prim.Native.Nat.{◌-◌, ◌≤◌}
-use native.Mathlib.Omega.{arith}
-use Rattle.machine.proofs.Laws.{was}
-use Rattle.id3.specs.Told.{read_told}
-use Rattle.id3.proofs.Ways.{Walking, walk-begun, walk-done, walk-padding, walk_no, walk-on, further}
-use borrow.Author.Rules.{rules}
+use Rattle.id3.proofs.Ways.{Walking}
 use Rattle.id3.proofs.read_frames.Given as goal
 
 abbrev pub invariant-loop-end : goal.invariant-loop-end

@@ -1,7 +1,6 @@
 -- `read_front` gives what `front` gives.
 -- Assumes nothing.
 use Rattle.id3.proofs.Ways.{front-extended, front-none}
-use borrow.Author.Rules.{rules}
 use Rattle.id3.proofs.read_front.Goals as goal
 
 pub returns-then-flags-eq1 : goal.returns-then-flags-eq1

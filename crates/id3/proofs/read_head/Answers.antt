@@ -4,7 +4,6 @@ use native.Mathlib.Omega.{arith}
 use Rattle.cursor.specs.Told.{number_told}
 use Rattle.machine.proofs.Laws.{was}
 use Rattle.id3.proofs.Ways.{head_few, head-i, head-d, head_three, head-version, head-unsynchronised, head-size, head-long, head-all}
-use borrow.Author.Rules.{rules}
 use Rattle.id3.proofs.read_head.Goals as goal
 
 pub returns-then-tag-lt10 : goal.returns-then-tag-lt10

@@ -2,7 +2,6 @@
 -- Assumes nothing.
 use native.Mathlib.Omega.{arith}
 use Rattle.id3.proofs.Ways.{size-cut, size-first, size-second, size-third, size-fourth, size-all}
-use borrow.Author.Rules.{rules}
 use Rattle.id3.proofs.read_size.Goals as goal
 
 pub returns-then-end-at-lt4 : goal.returns-then-end-at-lt4

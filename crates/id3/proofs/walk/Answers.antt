@@ -6,7 +6,6 @@ use Rattle.machine.proofs.Laws.{was}
 use Rattle.id3.specs.Told.{head_told}
 use Rattle.id3.proofs.Ends.{head-ends}
 use Rattle.id3.proofs.Ways.{walk-head, walk-front, walk-frames}
-use borrow.Author.Rules.{rules}
 use Rattle.id3.proofs.walk.Goals as goal
 
 pub read_front-requires : goal.read_front-requires

@@ -2,7 +2,6 @@
 -- Assumes nothing.
 use native.Mathlib.Omega.{arith}
 use Rattle.lines.proofs.Ending.{close_all, close_none}
-use borrow.Author.Rules.{rules}
 use Rattle.lines.proofs.close.Goals as goal
 
 pub returns-then-text-end : goal.returns-then-text-end

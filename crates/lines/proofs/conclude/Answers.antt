@@ -2,7 +2,6 @@
 -- Assumes nothing.
 use native.Mathlib.Omega.{arith}
 use Rattle.lines.proofs.Ending.{gives_as, gives-room, fitted-room, fitted-over}
-use borrow.Author.Rules.{rules}
 use Rattle.lines.proofs.conclude.Goals as goal
 
 pub returns-then-text-end : goal.returns-then-text-end

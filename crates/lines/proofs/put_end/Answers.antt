@@ -2,7 +2,6 @@
 -- Assumes nothing.
 use Rattle.room.proofs.Counting.{counts-then, counts-as}
 use Rattle.lines.proofs.Ending.{end_is}
-use borrow.Author.Rules.{rules}
 use Rattle.lines.proofs.put_end.Goals as goal
 
 pub returns : goal.returns

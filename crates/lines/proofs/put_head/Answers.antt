@@ -2,7 +2,6 @@
 -- Assumes nothing.
 use Rattle.room.proofs.Counting.{counts-then, counts-as}
 use Rattle.lines.proofs.Ending.{head-is}
-use borrow.Author.Rules.{rules}
 use Rattle.lines.proofs.put_head.Goals as goal
 
 pub returns : goal.returns

@@ -1,7 +1,6 @@
 -- `refuse` answers the line of a refusal.
 -- Assumes nothing.
 use Rattle.lines.specs.Answer.{refused_by}
-use borrow.Author.Rules.{rules}
 use Rattle.lines.proofs.refuse.Goals as goal
 
 pub returns : goal.returns

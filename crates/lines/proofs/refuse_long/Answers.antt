@@ -1,6 +1,5 @@
 -- `refuse_long` answers that a file is too long.
 -- Assumes nothing.
-use borrow.Author.Rules.{rules}
 use Rattle.lines.proofs.refuse_long.Goals as goal
 
 pub returns : goal.returns

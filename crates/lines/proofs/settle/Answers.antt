@@ -1,7 +1,6 @@
 -- `settle` answers what a call wrote or refused.
 -- Assumes nothing.
 use Rattle.lines.proofs.Ending.{gives_as, refuse-room, settle_bad, settle_good}
-use borrow.Author.Rules.{rules}
 use Rattle.lines.proofs.settle.Goals as goal
 
 pub returns-in-Refused : goal.returns-in-Refused

@@ -2,7 +2,6 @@
 -- Assumes nothing.
 use native.Mathlib.Omega.{arith}
 use Rattle.mend.proofs.Exits.{number_bound}
-use borrow.Author.Rules.{rules}
 use Rattle.mend.proofs.last_of.Goals as goal
 
 pub overflow_add-start : goal.overflow_add-start

@@ -4,10 +4,8 @@ use mathlib.Core.List.{[]}
 use lib.ListN.{length}
 use mathlib.Core.Path.{sym, ◌∙◌}
 use native.Mathlib.Omega.{arith}
-use borrow.Author.Tests.{not-true, not-false}
 use Rattle.metadata.specs.Tables.{limits}
 use Rattle.mend.proofs.Asked.{fields-are, fields-no, few, fields_in, any_types, last-is, sound_facts, refused-fields, lens, ends_lens, unsound, lost_behind, ends_set}
-use borrow.Author.Rules.{rules}
 use Rattle.mend.proofs.mend.Goals as goal
 
 pub refuse_unchanged-requires : goal.refuse_unchanged-requires

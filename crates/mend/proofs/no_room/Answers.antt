@@ -1,7 +1,6 @@
 -- All four are cleared.
 -- Assumes nothing.
 use mathlib.Core.Path.{refl}
-use borrow.Author.Rules.{rules}
 use Rattle.mend.proofs.no_room.Goals as goal
 
 pub returns : goal.returns

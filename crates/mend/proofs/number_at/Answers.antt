@@ -4,7 +4,6 @@ use Rattle.cursor.specs.Rows.{node_frame}
 use Rattle.cursor.specs.Told.{number_told}
 use Rattle.machine.proofs.Laws.{was}
 use Rattle.mend.proofs.Ways.{value-was}
-use borrow.Author.Rules.{rules}
 use Rattle.mend.proofs.number_at.Goals as goal
 
 pub returns-in-Refused : goal.returns-in-Refused

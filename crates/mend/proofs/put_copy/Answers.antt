@@ -4,7 +4,6 @@ use mathlib.Core.List.{[]}
 use native.Mathlib.Omega.{arith}
 use Rattle.mend.specs.Told.{fields_of}
 use Rattle.mend.proofs.Exits.{copied}
-use borrow.Author.Rules.{rules}
 use Rattle.mend.proofs.put_copy.Goals as goal
 
 pub set_field-requires : goal.set_field-requires

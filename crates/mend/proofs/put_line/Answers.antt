@@ -2,7 +2,6 @@
 -- Assumes nothing.
 use Rattle.mend.specs.Told.{field_of}
 use Rattle.mend.proofs.Ways.{line_same, line-is}
-use borrow.Author.Rules.{rules}
 use Rattle.mend.proofs.put_line.Goals as goal
 
 pub returns-then-x-n : goal.returns-then-x-n

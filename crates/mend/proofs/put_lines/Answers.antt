@@ -2,7 +2,6 @@
 -- Assumes nothing.
 use Rattle.mend.specs.Told.{field_of}
 use Rattle.mend.proofs.Ways.{lines_are}
-use borrow.Author.Rules.{rules}
 use Rattle.mend.proofs.put_lines.Goals as goal
 
 pub returns : goal.returns

@@ -1,7 +1,6 @@
 -- A tab, and a number.
 -- Assumes nothing.
 use Rattle.mend.proofs.Ways.{tabbed-is}
-use borrow.Author.Rules.{rules}
 use Rattle.mend.proofs.put_tabbed.Goals as goal
 
 pub returns : goal.returns

@@ -4,7 +4,6 @@ use Rattle.cursor.specs.Rows.{file_frame}
 use Rattle.cursor.specs.Told.{number_told}
 use Rattle.machine.proofs.Laws.{was}
 use Rattle.mend.proofs.Ways.{field-no, field_is}
-use borrow.Author.Rules.{rules}
 use Rattle.mend.proofs.read_field.Goals as goal
 
 pub returns-in-Refused : goal.returns-in-Refused

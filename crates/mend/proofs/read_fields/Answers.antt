@@ -11,7 +11,6 @@ use Rattle.header.proofs.Ends.{opening_on}
 use Rattle.header.proofs.Ways.{types-counted, types-refused, listed}
 use Rattle.mend.proofs.Ways.{fields-opening, fields-edition, fields-length, fields-types, fields-start, fields-last, fields-all}
 use native.Mathlib.Omega.{arith}
-use borrow.Author.Rules.{rules}
 use Rattle.mend.proofs.read_fields.Goals as goal
 
 pub read_edition-requires : goal.read_edition-requires

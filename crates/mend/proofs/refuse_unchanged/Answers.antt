@@ -2,7 +2,6 @@
 -- Assumes nothing.
 use lib.ListN.{length}
 use Rattle.mend.proofs.Exits.{ends_refused, never_read}
-use borrow.Author.Rules.{rules}
 use Rattle.mend.proofs.refuse_unchanged.Goals as goal
 
 pub returns-in-Refused : goal.returns-in-Refused

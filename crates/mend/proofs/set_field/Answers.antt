@@ -2,7 +2,6 @@
 -- Assumes nothing.
 use native.Mathlib.Omega.{arith}
 use Rattle.mend.proofs.Ways.{set_is}
-use borrow.Author.Rules.{rules}
 use Rattle.mend.proofs.set_field.Goals as goal
 
 pub returns : goal.returns

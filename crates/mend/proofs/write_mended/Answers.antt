@@ -4,7 +4,6 @@ use native.Mathlib.Omega.{arith}
 use Rattle.mend.specs.Told.{fields_of}
 use Rattle.room.proofs.Counting.{wrote-all}
 use Rattle.mend.proofs.Exits.{set-short, set-narrow, set-good, zeros}
-use borrow.Author.Rules.{rules}
 use Rattle.mend.proofs.write_mended.Goals as goal
 
 pub returns-then-copy-file : goal.returns-then-copy-file

@@ -4,7 +4,6 @@ use Rattle.cursor.specs.Rows.{meta_frame}
 use Rattle.cursor.specs.Told.{number_told}
 use Rattle.machine.proofs.Laws.{was}
 use Rattle.metadata.proofs.Ways.{contents-cut, contents-universal, contents-versions}
-use borrow.Author.Rules.{rules}
 use Rattle.metadata.proofs.read_contents.Goals as goal
 
 pub returns-then-n-eq0 : goal.returns-then-n-eq0

@@ -7,7 +7,6 @@ use Rattle.machine.proofs.Laws.{was}
 use Rattle.cursor.proofs.Leaves.{block_inside}
 use Rattle.metadata.proofs.Ways.{field_cut, field-name, field-number, field-standard}
 use native.Mathlib.Omega.{arith}
-use borrow.Author.Rules.{rules}
 use Rattle.metadata.proofs.read_field.Goals as goal
 
 pub on-requires : goal.on-requires

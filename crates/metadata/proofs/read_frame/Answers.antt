@@ -3,7 +3,6 @@
 use Rattle.machine.proofs.Laws.{was}
 use Rattle.metadata.specs.Told.{field_told, contents_told}
 use Rattle.metadata.proofs.Ways.{frame-field, frame-contents, frame-all}
-use borrow.Author.Rules.{rules}
 use Rattle.metadata.proofs.read_frame.Goals as goal
 
 pub returns-in-Refused : goal.returns-in-Refused

@@ -5,7 +5,6 @@ use Rattle.metadata.specs.Told.{item_told}
 use Rattle.metadata.proofs.Gives.{no, yes, along}
 use Rattle.metadata.proofs.Ways.{item-frame, item-rows, common_was, common_inside, common_row}
 use native.Mathlib.Omega.{arith}
-use borrow.Author.Rules.{rules}
 use Rattle.metadata.proofs.read_item.Goals as goal
 
 pub on-data-requires : goal.on-data-requires

@@ -1,13 +1,9 @@
 -- `read_items` reads items end to end. The invariant: what is left of them comes to what the whole comes to.
 -- Assumes nothing.
-use mathlib.Core.Path.{◌≡◌, refl, ap, ◌∙◌}
-use Prim.Native.Nat.{◌-◌}
-use lib.ListN.{length}
-use Rattle.metadata.specs.Told.{context_of, counts, walked}
-use Rattle.metadata.proofs.Ways.{Reading, items-begun, items-done, items-no, items-further, items-on}
+use mathlib.Core.Path.{refl, ap}
+use Rattle.metadata.specs.Told.{walked}
+use Rattle.metadata.proofs.Ways.{items-begun, items-done, items-no, items-further, items-on}
 use native.Mathlib.Omega.{arith}
-use borrow.Author.Rules.{rules}
-use borrow.Author.Rules.{rules}
 use Rattle.metadata.proofs.read_items.Goals as goal
 
 pub loop-at-init : goal.loop-at-init

@@ -1,13 +1,10 @@
 -- `read_items` reads items end to end. The invariant: what is left of them comes to what the whole comes to.
 -- Assumes nothing.
-use mathlib.Core.Path.{◌≡◌, refl, ap, ◌∙◌}
+use mathlib.Core.Path.{◌≡◌}
 use Prim.Native.Nat.{◌-◌}
 use lib.ListN.{length}
-use Rattle.metadata.specs.Told.{context_of, counts, walked}
-use Rattle.metadata.proofs.Ways.{Reading, items-begun, items-done, items-no, items-further, items-on}
-use native.Mathlib.Omega.{arith}
-use borrow.Author.Rules.{rules}
-use borrow.Author.Rules.{rules}
+use Rattle.metadata.specs.Told.{context_of, counts}
+use Rattle.metadata.proofs.Ways.{Reading}
 use Rattle.metadata.proofs.read_items.Given as goal
 
 abbrev pub invariant-loop-at : goal.invariant-loop-at

@@ -7,7 +7,6 @@ use Rattle.cursor.proofs.Leaves.{block_inside}
 use Rattle.metadata.proofs.Gives.{no, along}
 use Rattle.metadata.proofs.Ways.{metadata-length, metadata-items}
 use native.Mathlib.Omega.{arith}
-use borrow.Author.Rules.{rules}
 use Rattle.metadata.proofs.read_metadata.Goals as goal
 
 pub on-after-requires : goal.on-after-requires

@@ -2,7 +2,6 @@
 -- Assumes nothing.
 use Rattle.metadata.proofs.Gives.{along}
 use Rattle.metadata.proofs.Ways.{rows-universal, rows-versions}
-use borrow.Author.Rules.{rules}
 use Rattle.metadata.proofs.read_rows.Goals as goal
 
 pub returns-in-Universal : goal.returns-in-Universal

@@ -8,8 +8,6 @@ use Rattle.metadata.specs.Tables.{state}
 use Rattle.metadata.proofs.Gives.{no, yes}
 use Rattle.metadata.proofs.Ways.{universal-limit, universal-length, universal-zero, universal-format, universal-row}
 use native.Mathlib.Omega.{arith}
-use borrow.Author.Rules.{rules}
-use borrow.Author.Rules.{rules}
 use Rattle.metadata.proofs.read_universal.Goals as goal
 
 pub returns-then-limits-rows : goal.returns-then-limits-rows

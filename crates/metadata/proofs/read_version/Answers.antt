@@ -9,8 +9,6 @@ use Rattle.metadata.specs.Tables.{state}
 use Rattle.metadata.proofs.Gives.{no, yes}
 use Rattle.metadata.proofs.Ways.{version-limit, version-type, version-unknown, version-length, version-row}
 use native.Mathlib.Omega.{arith}
-use borrow.Author.Rules.{rules}
-use borrow.Author.Rules.{rules}
 use Rattle.metadata.proofs.read_version.Goals as goal
 
 pub returns-then-limits-rows : goal.returns-then-limits-rows

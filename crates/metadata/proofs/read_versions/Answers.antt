@@ -1,12 +1,9 @@
 -- `read_versions` reads the versions one after the other. The invariant: what is left of them comes to what the whole comes to.
 -- Assumes nothing.
-use mathlib.Core.Path.{ap, ◌∙◌}
-use lib.ListN.{length}
-use Rattle.metadata.specs.Told.{context_of, counts, walked}
-use Rattle.metadata.proofs.Ways.{Going, versions_begun, versions_done, versions_no, versions_on}
+use mathlib.Core.Path.{ap}
+use Rattle.metadata.specs.Told.{walked}
+use Rattle.metadata.proofs.Ways.{versions_begun, versions_done, versions_no, versions_on}
 use native.Mathlib.Omega.{arith}
-use borrow.Author.Rules.{rules}
-use borrow.Author.Rules.{rules}
 use Rattle.metadata.proofs.read_versions.Goals as goal
 
 pub loop-left-init : goal.loop-left-init

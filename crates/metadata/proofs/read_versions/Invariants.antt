@@ -1,12 +1,8 @@
 -- `read_versions` reads the versions one after the other. The invariant: what is left of them comes to what the whole comes to.
 -- Assumes nothing.
-use mathlib.Core.Path.{ap, ◌∙◌}
 use lib.ListN.{length}
-use Rattle.metadata.specs.Told.{context_of, counts, walked}
-use Rattle.metadata.proofs.Ways.{Going, versions_begun, versions_done, versions_no, versions_on}
-use native.Mathlib.Omega.{arith}
-use borrow.Author.Rules.{rules}
-use borrow.Author.Rules.{rules}
+use Rattle.metadata.specs.Told.{context_of, counts}
+use Rattle.metadata.proofs.Ways.{Going}
 use Rattle.metadata.proofs.read_versions.Given as goal
 
 abbrev pub invariant-loop-left : goal.invariant-loop-left

@@ -1,7 +1,6 @@
 -- `row_of` gives what `row_of` gives.
 -- Assumes nothing.
 use Rattle.metadata.proofs.Ways.{row-standard, row-name}
-use borrow.Author.Rules.{rules}
 use Rattle.metadata.proofs.row_of.Goals as goal
 
 pub returns-in-Standard : goal.returns-in-Standard

@@ -1,10 +1,8 @@
 -- `are_needs` says what `are_needs` says. The invariant: what is left of the rows of field 13 decides.
 -- Assumes nothing.
-use borrow.Author.Tests.{not-true, not-false}
 use mathlib.Core.Path.{sym}
-use Prim.Native.Nat.{◌-◌, ◌≤◌}
 use Rattle.file.proofs.Own.{row_in}
-use Rattle.mobile.proofs.Checks.{NeedsLeft, needs-none, needs-begin, needs-no, needs-on}
+use Rattle.mobile.proofs.Checks.{needs-none, needs-begin, needs-no, needs-on}
 use native.Mathlib.Omega.{arith}
 use Rattle.mobile.proofs.are_needs.Goals as goal
 

@@ -1,11 +1,7 @@
 -- `are_needs` says what `are_needs` says. The invariant: what is left of the rows of field 13 decides.
 -- Assumes nothing.
-use borrow.Author.Tests.{not-true, not-false}
-use mathlib.Core.Path.{sym}
 use Prim.Native.Nat.{◌-◌, ◌≤◌}
-use Rattle.file.proofs.Own.{row_in}
-use Rattle.mobile.proofs.Checks.{NeedsLeft, needs-none, needs-begin, needs-no, needs-on}
-use native.Mathlib.Omega.{arith}
+use Rattle.mobile.proofs.Checks.{NeedsLeft}
 use Rattle.mobile.proofs.are_needs.Given as goal
 
 abbrev pub invariant-loop-i : goal.invariant-loop-i

@@ -1,7 +1,6 @@
 -- `besides` gives what `besides` gives by definition.
 -- Assumes nothing.
 use Rattle.mobile.specs.Pass.{besides}
-use borrow.Author.Rules.{rules}
 use Rattle.mobile.proofs.besides.Goals as goal
 
 pub returns-in-None : goal.returns-in-None

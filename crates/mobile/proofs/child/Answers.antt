@@ -1,7 +1,6 @@
 -- `child` gives what `child` gives by definition.
 -- Assumes nothing.
 use Rattle.mobile.specs.Pass.{child}
-use borrow.Author.Rules.{rules}
 use Rattle.mobile.proofs.child.Goals as goal
 
 pub returns-in-Tune : goal.returns-in-Tune

@@ -1,15 +1,9 @@
 -- `children_of` gives what `children` gives. The invariant: what the nodes from row i on are, and where the own rows of node i begin.
 -- Assumes nothing.
-use mathlib.Core.Path.{◌≡◌}
-use Prim.Native.Nat.{◌-◌, ◌≤◌}
-use lib.ListN.{drop}
-use Rattle.rows.specs.Rows.{nodes_in, items_in}
-use Rattle.file.specs.Own.{first_row}
+use Prim.Native.Nat.{◌-◌}
 use Rattle.file.proofs.Own.{end-begin, rows_in_lem, end-in, end-next}
-use Rattle.mobile.specs.Pass.{children_from}
 use Rattle.mobile.proofs.Roles.{children-begin, children-end, child-next}
 use native.Mathlib.Omega.{arith}
-use borrow.Author.Rules.{rules}
 use Rattle.mobile.proofs.children_of.Goals as goal
 
 pub loop-i-init : goal.loop-i-init

@@ -1,10 +1,5 @@
 -- `files_only` says what `files_only` says. The invariant: what is left of the rows decides.
 -- Assumes nothing.
-use mathlib.Core.Path.{◌≡◌}
-use Prim.Native.Nat.{◌-◌, ◌≤◌}
-use lib.ListN.{drop}
-use Rattle.rows.specs.Rows.{nodes_in}
-use Rattle.mobile.specs.Mobile.{all, is_file, files_only}
 use Rattle.mobile.proofs.Lists.{nodes-no, nodes-on, nodes-yes}
 use Rattle.mobile.proofs.Tests.{file-no, file-yes, root_none, root_file, root_folder}
 use native.Mathlib.Omega.{arith}

@@ -5,9 +5,6 @@ use Prim.Native.Nat.{◌-◌, ◌≤◌}
 use lib.ListN.{drop}
 use Rattle.rows.specs.Rows.{nodes_in}
 use Rattle.mobile.specs.Mobile.{all, is_file, files_only}
-use Rattle.mobile.proofs.Lists.{nodes-no, nodes-on, nodes-yes}
-use Rattle.mobile.proofs.Tests.{file-no, file-yes, root_none, root_file, root_folder}
-use native.Mathlib.Omega.{arith}
 use Rattle.mobile.proofs.files_only.Given as goal
 
 abbrev pub invariant-loop-i : goal.invariant-loop-i

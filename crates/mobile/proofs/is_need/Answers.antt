@@ -3,7 +3,6 @@
 use mathlib.Core.Bool.{not}
 use mathlib.Core.Path.{ap}
 use Rattle.mobile.proofs.Tests.{need_node, need_text, need_by}
-use borrow.Author.Rules.{rules}
 use Rattle.mobile.proofs.is_need.Goals as goal
 
 pub returns-then-row-tune : goal.returns-then-row-tune

@@ -5,7 +5,6 @@ use Rattle.file.proofs.Exits.{says-unread}
 use Rattle.file.proofs.Own.{tables}
 use Rattle.mobile.specs.Mobile.{mobile}
 use Rattle.mobile.proofs.Checks.{judged}
-use borrow.Author.Rules.{rules}
 use Rattle.mobile.proofs.judge.Goals as goal
 
 pub verdict-requires : goal.verdict-requires

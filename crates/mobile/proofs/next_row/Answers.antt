@@ -1,13 +1,9 @@
 -- `next_row` finds the next row of a field. The invariant: the rows of the field that are left are all.
 -- Assumes nothing.
-use mathlib.Core.Path.{◌≡◌, refl}
-use Prim.Native.Nat.{◌-◌, ◌≤◌}
-use Rattle.rows.specs.Rows.{items_in}
-use Rattle.file.specs.Own.{those, part}
+use mathlib.Core.Path.{refl}
 use Rattle.description.specs.Row.{is_field}
 use Rattle.mobile.proofs.Lists.{next_here, next-on, next-none}
 use native.Mathlib.Omega.{arith}
-use borrow.Author.Rules.{rules}
 use Rattle.mobile.proofs.next_row.Goals as goal
 
 pub loop-i-init : goal.loop-i-init

@@ -1,13 +1,10 @@
 -- `next_row` finds the next row of a field. The invariant: the rows of the field that are left are all.
 -- Assumes nothing.
-use mathlib.Core.Path.{◌≡◌, refl}
+use mathlib.Core.Path.{◌≡◌}
 use Prim.Native.Nat.{◌-◌, ◌≤◌}
 use Rattle.rows.specs.Rows.{items_in}
 use Rattle.file.specs.Own.{those, part}
 use Rattle.description.specs.Row.{is_field}
-use Rattle.mobile.proofs.Lists.{next_here, next-on, next-none}
-use native.Mathlib.Omega.{arith}
-use borrow.Author.Rules.{rules}
 use Rattle.mobile.proofs.next_row.Given as goal
 
 abbrev pub invariant-loop-i : goal.invariant-loop-i

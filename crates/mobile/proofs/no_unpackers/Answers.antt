@@ -1,10 +1,5 @@
 -- `no_unpackers` says what `no_unpackers` says. The invariant: what is left of the rows decides.
 -- Assumes nothing.
-use mathlib.Core.Path.{◌≡◌}
-use Prim.Native.Nat.{◌-◌, ◌≤◌}
-use lib.ListN.{drop}
-use Rattle.rows.specs.Rows.{nodes_in}
-use Rattle.mobile.specs.Mobile.{all, is_unpacked, no_unpackers}
 use Rattle.mobile.proofs.Lists.{nodes-no, nodes-on, nodes-yes}
 use Rattle.mobile.proofs.Tests.{unpacked_no, unpacked_yes, unpackers-are}
 use native.Mathlib.Omega.{arith}

@@ -5,9 +5,6 @@ use Prim.Native.Nat.{◌-◌, ◌≤◌}
 use lib.ListN.{drop}
 use Rattle.rows.specs.Rows.{nodes_in}
 use Rattle.mobile.specs.Mobile.{all, is_unpacked, no_unpackers}
-use Rattle.mobile.proofs.Lists.{nodes-no, nodes-on, nodes-yes}
-use Rattle.mobile.proofs.Tests.{unpacked_no, unpacked_yes, unpackers-are}
-use native.Mathlib.Omega.{arith}
 use Rattle.mobile.proofs.no_unpackers.Given as goal
 
 abbrev pub invariant-loop-i : goal.invariant-loop-i

@@ -1,7 +1,6 @@
 -- `one_tune` says what `one_tune_of` says.
 -- Assumes nothing.
 use Rattle.mobile.proofs.Checks.{tunes_none, tunes_more, tune_alone, tune_after, tune_beside}
-use borrow.Author.Rules.{rules}
 use Rattle.mobile.proofs.one_tune.Goals as goal
 
 pub returns-in-None-instruments : goal.returns-in-None-instruments

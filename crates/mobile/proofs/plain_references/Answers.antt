@@ -1,15 +1,10 @@
 -- `plain_references` says what `plain_references` says. The invariant: what is left of the rows decides.
 -- Assumes nothing.
-use mathlib.Core.Path.{◌≡◌, sym, ◌∙◌}
-use Prim.Native.Nat.{◌-◌, ◌≤◌}
-use lib.ListN.{drop}
-use Rattle.rows.specs.Rows.{nodes_in}
-use borrow.Author.Tests.{not-true, not-false}
-use Rattle.mobile.specs.Mobile.{all, is_plain, plain_references}
+use mathlib.Core.Path.{sym, ◌∙◌}
+use Rattle.mobile.specs.Mobile.{is_plain}
 use Rattle.mobile.proofs.Lists.{nodes-no, nodes-on, nodes-yes}
 use Rattle.mobile.proofs.Tests.{plain-are}
 use native.Mathlib.Omega.{arith}
-use borrow.Author.Rules.{rules}
 use Rattle.mobile.proofs.plain_references.Goals as goal
 
 pub loop-i-init : goal.loop-i-init

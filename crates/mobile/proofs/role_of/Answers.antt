@@ -3,7 +3,6 @@
 use Rattle.file.proofs.Own.{row_in}
 use Rattle.mobile.proofs.Roles.{role_none, role_two, role_one}
 use native.Mathlib.Omega.{arith}
-use borrow.Author.Rules.{rules}
 use Rattle.mobile.proofs.role_of.Goals as goal
 
 pub returns-then-end-first : goal.returns-then-end-first

@@ -1,12 +1,9 @@
 -- `role_of_row` says what `role_of_row` says.
 -- Assumes nothing.
-use borrow.Author.Tests.{not-true, not-false}
 use Rattle.cursor.specs.Rows.{meta_frame}
 use Rattle.cursor.specs.Told.{number_told}
 use Rattle.machine.proofs.Laws.{was}
 use Rattle.mobile.proofs.Roles.{row_other, row-empty, row_first, row_cut, row-left, row_type}
-use native.Mathlib.Omega.{arith}
-use borrow.Author.Rules.{rules}
 use Rattle.mobile.proofs.role_of_row.Goals as goal
 
 pub returns-then-not-is_binary : goal.returns-then-not-is_binary

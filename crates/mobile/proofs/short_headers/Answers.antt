@@ -1,10 +1,6 @@
 -- `short_headers` says what `all is_short` says. The invariant: what is left of the rows decides.
 -- Assumes nothing.
-use mathlib.Core.Path.{◌≡◌, refl}
-use Prim.Native.Nat.{◌-◌, ◌≤◌}
-use lib.ListN.{drop}
-use Rattle.rows.specs.Rows.{nodes_in}
-use Rattle.mobile.specs.Mobile.{all, is_short}
+use mathlib.Core.Path.{refl}
 use Rattle.mobile.proofs.Lists.{nodes-no, nodes-on, nodes-yes}
 use Rattle.mobile.proofs.Tests.{short-no, short-yes}
 use native.Mathlib.Omega.{arith}

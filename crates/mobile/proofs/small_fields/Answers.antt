@@ -1,8 +1,6 @@
 -- `small_fields` says what `small_fields` says.
 -- Assumes nothing.
-use borrow.Author.Tests.{not-true, not-false}
 use Rattle.mobile.proofs.Checks.{small-long, small_by}
-use borrow.Author.Rules.{rules}
 use Rattle.mobile.proofs.small_fields.Goals as goal
 
 pub returns-then-not-short_headers : goal.returns-then-not-short_headers

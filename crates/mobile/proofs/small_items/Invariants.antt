@@ -1,14 +1,10 @@
 -- `small_items` says what `all is_small` says. The invariant: what is left of the rows decides.
 -- Assumes nothing.
-use mathlib.Core.Path.{◌≡◌, refl}
+use mathlib.Core.Path.{◌≡◌}
 use Prim.Native.Nat.{◌-◌, ◌≤◌}
 use lib.ListN.{drop}
 use Rattle.rows.specs.Rows.{items_in}
 use Rattle.mobile.specs.Mobile.{all, is_small}
-use Rattle.mobile.proofs.Lists.{items-no, items-on, items-yes}
-use Rattle.mobile.proofs.Tests.{small-no, small-yes}
-use native.Mathlib.Omega.{arith}
-use borrow.Author.Rules.{rules}
 use Rattle.mobile.proofs.small_items.Given as goal
 
 abbrev pub invariant-loop-i : goal.invariant-loop-i

@@ -1,7 +1,6 @@
 -- `tune_needs` says what `tune_needs_of` says.
 -- Assumes nothing.
 use Rattle.mobile.proofs.Checks.{needs-of_none, needs-of_more, needs-of_one}
-use borrow.Author.Rules.{rules}
 use Rattle.mobile.proofs.tune_needs.Goals as goal
 
 pub returns-in-One : goal.returns-in-One

@@ -4,7 +4,6 @@ use mathlib.Core.Bool.{not}
 use mathlib.Core.Path.{refl, ap}
 use Rattle.rows.specs.Rows.{nodes_in, items_in}
 use Rattle.mobile.proofs.Checks.{stop, skip, verdict-by}
-use borrow.Author.Rules.{rules}
 use Rattle.mobile.proofs.verdict.Goals as goal
 
 pub returns-then-not-right_edition : goal.returns-then-not-right_edition

@@ -1,7 +1,6 @@
 -- `is_kind` tells the kind of a known line by its first letter.
 -- Assumes nothing.
 use Rattle.editions.proofs.Fields.{item-letter, node-letter}
-use borrow.Author.Rules.{rules}
 use Rattle.mover.proofs.is_kind.Goals as goal
 
 pub returns-then-items : goal.returns-then-items

@@ -4,7 +4,6 @@ use native.Mathlib.Omega.{arith}
 use Rattle.editions.specs.Told.{JudgedAs}
 use Rattle.editions.proofs.Places.{as_told}
 use Rattle.mover.proofs.Writing.{says-no_sheet, says-no_room, says-moved}
-use borrow.Author.Rules.{rules}
 use Rattle.mover.proofs.move_sheet.Goals as goal
 
 pub put_moved-size-requires : goal.put_moved-size-requires

@@ -1,16 +1,11 @@
 -- `next_item` finds the next item line. The invariant: the item lines from here on are all of them, and the lines are known.
 -- Assumes nothing.
-use mathlib.Core.Path.{◌≡◌, refl}
+use mathlib.Core.Path.{refl}
 use Prim.{tt}
-use Prim.Native.Nat.{◌-◌, ◌≤◌}
-use lib.ListN.{length, drop}
 use native.Mathlib.Omega.{arith}
-use Rattle.editions.specs.Sheets.{parted, items_of}
-use Rattle.editions.specs.Reads.{AllKnown}
 use Rattle.editions.proofs.Places.{next-piece}
 use Rattle.editions.proofs.Judging.{lent}
 use Rattle.mover.proofs.Writing.{known_on, known-line, item-none, item-past, item-here}
-use borrow.Author.Rules.{rules}
 use Rattle.mover.proofs.next_item.Goals as goal
 
 pub loop-at-init : goal.loop-at-init

@@ -4,7 +4,6 @@ use native.Mathlib.Omega.{arith}
 use Rattle.editions.specs.Told.{NumberAt}
 use Rattle.editions.proofs.Places.{as_told}
 use Rattle.editions.proofs.Fields.{label-room, node-of_none, node-of_no, node-of_is}
-use borrow.Author.Rules.{rules}
 use Rattle.mover.proofs.node_of.Goals as goal
 
 pub returns-then-letter-ne77 : goal.returns-then-letter-ne77

@@ -1,13 +1,11 @@
 -- `put_groups` puts each node line with its items. The invariant: of the whole walk, the node lines from here on with the item lines from the next one on are still to be put,
 -- and the lines are known.
 -- Assumes nothing.
-use Prim.Native.Nat.{◌-◌, ◌≤◌}
-use lib.ListN.{length, drop}
+use lib.ListN.{drop}
 use native.Mathlib.Omega.{arith}
-use Rattle.room.proofs.Counting.{Going, going_start, going_end, going_length}
-use Rattle.editions.specs.Sheets.{parted, written, nodes_of, items_of}
-use Rattle.editions.specs.Reads.{AllKnown, walk}
-use Rattle.mover.specs.Told.{item_lines, Right}
+use Rattle.room.proofs.Counting.{going_start, going_end}
+use Rattle.editions.specs.Sheets.{parted, nodes_of}
+use Rattle.mover.specs.Told.{item_lines}
 use Rattle.editions.proofs.Places.{next-piece}
 use Rattle.editions.proofs.Judging.{lent}
 use Rattle.mover.proofs.Writing.{known_on, known-line, going_as, right-low, walk_start, walk_turn, walk-past, walk_end}

@@ -3,14 +3,10 @@
 -- Assumes nothing.
 use Prim.Native.Nat.{◌-◌, ◌≤◌}
 use lib.ListN.{length, drop}
-use native.Mathlib.Omega.{arith}
-use Rattle.room.proofs.Counting.{Going, going_start, going_end, going_length}
+use Rattle.room.proofs.Counting.{Going}
 use Rattle.editions.specs.Sheets.{parted, written, nodes_of, items_of}
 use Rattle.editions.specs.Reads.{AllKnown, walk}
 use Rattle.mover.specs.Told.{item_lines, Right}
-use Rattle.editions.proofs.Places.{next-piece}
-use Rattle.editions.proofs.Judging.{lent}
-use Rattle.mover.proofs.Writing.{known_on, known-line, going_as, right-low, walk_start, walk_turn, walk-past, walk_end}
 use Rattle.mover.proofs.put_groups.Given as goal
 
 abbrev pub invariant-loop-at : goal.invariant-loop-at

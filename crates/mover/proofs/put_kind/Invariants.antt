@@ -1,15 +1,10 @@
 -- `put_kind` puts the lines of one kind. The invariant: of all of them, those from here on are still to be put, and the lines are known.
 -- Assumes nothing.
-use mathlib.Core.Path.{refl}
 use Prim.Native.Nat.{◌-◌}
 use lib.ListN.{length, drop}
-use native.Mathlib.Omega.{arith}
-use Rattle.room.proofs.Counting.{Going, going_start, going_on, going_end, going_length}
+use Rattle.room.proofs.Counting.{Going}
 use Rattle.editions.specs.Sheets.{parted, written, picked, is_kind}
 use Rattle.editions.specs.Reads.{AllKnown}
-use Rattle.editions.proofs.Places.{next-piece}
-use Rattle.editions.proofs.Judging.{lent}
-use Rattle.mover.proofs.Writing.{known_on, known-line, going_as, put-kind_one, put-kind_past, put-kind_end}
 use Rattle.mover.proofs.put_kind.Given as goal
 
 abbrev pub invariant-loop-at : goal.invariant-loop-at

@@ -1,9 +1,7 @@
 -- `put_line` puts a line.
 -- Assumes nothing.
-use native.Mathlib.Omega.{arith}
 use Rattle.editions.proofs.Judging.{lent}
 use Rattle.mover.proofs.Writing.{put_one}
-use borrow.Author.Rules.{rules}
 use Rattle.mover.proofs.put_line.Goals as goal
 
 pub returns : goal.returns

@@ -3,7 +3,6 @@
 use native.Mathlib.Omega.{arith}
 use Rattle.room.proofs.Counting.{counts-then, counts-as}
 use Rattle.mover.proofs.Writing.{body-known, second-lead, first-lead, moved-second, moved-first}
-use borrow.Author.Rules.{rules}
 use Rattle.mover.proofs.put_moved.Goals as goal
 
 pub overflow_add-body : goal.overflow_add-body

@@ -2,11 +2,10 @@
 -- Assumes nothing.
 use mathlib.Core.Path.{refl}
 use native.Mathlib.Omega.{arith}
-use Rattle.room.proofs.Counting.{going_start, going_length}
-use Rattle.mover.specs.Told.{Right, left_of}
+use Rattle.room.proofs.Counting.{going_start}
+use Rattle.mover.specs.Told.{Right}
 use Rattle.editions.proofs.Places.{as_told}
-use Rattle.mover.proofs.Writing.{Running, run_none, run-over, run-less, run-turn}
-use borrow.Author.Rules.{rules}
+use Rattle.mover.proofs.Writing.{run_none, run-over, run-less, run-turn}
 use Rattle.mover.proofs.put_run.Goals as goal
 
 pub loop-item-init : goal.loop-item-init

@@ -1,7 +1,6 @@
 -- `hidden` gives no answer.
 -- Assumes nothing.
 use Rattle.needs.proofs.Needing.{nothing-given}
-use borrow.Author.Rules.{rules}
 use Rattle.needs.proofs.hidden.Goals as goal
 
 pub returns : goal.returns

@@ -1,9 +1,7 @@
 -- `is_description` tests for a content description.
 -- Assumes nothing.
 use mathlib.Core.Path.{sym, ◌∙◌}
-use borrow.Author.Tests.{not-true, not-false}
 use Rattle.needs.proofs.Needing.{described-no, described-by}
-use borrow.Author.Rules.{rules}
 use Rattle.needs.proofs.is_description.Goals as goal
 
 pub returns-then-not-is_field : goal.returns-then-not-is_field

@@ -1,9 +1,7 @@
 -- `make_item_needs` answers the counts of a visible content description, or the refusal.
 -- Assumes nothing.
-use borrow.Author.Tests.{not-true, not-false}
 use Rattle.lines.proofs.Ending.{gives_as, printed-bad}
 use Rattle.needs.proofs.Needing.{nothing-printed, told-printed, needs-hidden, needs-other, needs-told}
-use borrow.Author.Rules.{rules}
 use Rattle.needs.proofs.make_item_needs.Goals as goal
 
 pub returns-then-item-eq1 : goal.returns-then-item-eq1

@@ -4,7 +4,6 @@ use Rattle.file.proofs.Rows.{standing}
 use Rattle.file.proofs.Own.{item-rows}
 use Rattle.lines.proofs.Ending.{gives_as}
 use Rattle.needs.proofs.Needing.{needs-bad, needs-good}
-use borrow.Author.Rules.{rules}
 use Rattle.needs.proofs.make_needs.Goals as goal
 
 pub put_needs-put-requires : goal.put_needs-put-requires

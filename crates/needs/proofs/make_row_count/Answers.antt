@@ -4,7 +4,6 @@ use mathlib.Core.Path.{sym, ap, ◌∙◌}
 use Rattle.description.specs.Told.{told}
 use Rattle.lines.proofs.Ending.{gives_as, printed-good, printed-bad}
 use Rattle.needs.proofs.Needing.{nothing-printed, count-hidden, count-bad, count-good}
-use borrow.Author.Rules.{rules}
 use Rattle.needs.proofs.make_row_count.Goals as goal
 
 pub returns-then-item-eq1 : goal.returns-then-item-eq1

@@ -6,7 +6,6 @@ use Rattle.file.proofs.Own.{item-rows}
 use Rattle.needs.specs.Needed.{shown_needs, row_needs_answer}
 use Rattle.lines.proofs.Ending.{gives_as}
 use Rattle.needs.proofs.Needing.{of_unread, of_past, of_row_lem}
-use borrow.Author.Rules.{rules}
 use Rattle.needs.proofs.make_row_needs.Goals as goal
 
 pub returns-then-s-row : goal.returns-then-s-row

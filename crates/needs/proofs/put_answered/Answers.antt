@@ -3,7 +3,6 @@
 use Rattle.lines.proofs.Ending.{gives_as, refuse-room, printed-good, printed-bad}
 use Rattle.lines.specs.Answer.{plainly}
 use Rattle.needs.proofs.Needing.{puts-bad, puts-good}
-use borrow.Author.Rules.{rules}
 use Rattle.needs.proofs.put_answered.Goals as goal
 
 pub returns-in-Refused : goal.returns-in-Refused

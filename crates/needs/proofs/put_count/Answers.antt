@@ -2,7 +2,6 @@
 -- Assumes nothing.
 use Rattle.room.proofs.Counting.{counts-then, counts-as}
 use Rattle.needs.proofs.Needing.{count-is}
-use borrow.Author.Rules.{rules}
 use Rattle.needs.proofs.put_count.Goals as goal
 
 pub returns : goal.returns

@@ -7,7 +7,6 @@ use Rattle.cursor.specs.Told.{number_told, pass_told}
 use Rattle.machine.proofs.Laws.{was}
 use Rattle.cursor.proofs.Leaves.{number-inside}
 use Rattle.needs.proofs.Needing.{puts-as, whole-message, whole-channels, whole-resources, whole-lists, whole-table}
-use borrow.Author.Rules.{rules}
 use Rattle.needs.proofs.put_counts.Goals as goal
 
 pub put_table-requires : goal.put_table-requires

@@ -1,13 +1,9 @@
 -- `put_needs` puts the lines of all visible content descriptions. The invariant: of the whole, the rows from row i on are still to be put.
 -- Assumes nothing.
 use Prim.Native.Nat.{◌-◌, ◌≤◌}
-use mathlib.Core.Path.{◌∙◌}
-use native.Mathlib.Omega.{arith}
-use lib.ListN.{length}
 use Rattle.rows.specs.Rows.{items_from, items_in}
 use Rattle.needs.specs.Needed.{needs_from}
-use Rattle.needs.proofs.Needing.{Needing, needing-start, needing-on, needing-no, needing-end, puts-bad, puts-good}
-use borrow.Author.Rules.{rules}
+use Rattle.needs.proofs.Needing.{Needing}
 use Rattle.needs.proofs.put_needs.Given as goal
 
 abbrev pub invariant-loop-i : goal.invariant-loop-i

@@ -1,11 +1,9 @@
 -- `put_row_needs` puts the lines of an item row, if it is a visible content description.
 -- Assumes nothing.
-use borrow.Author.Tests.{not-true, not-false}
 use mathlib.Core.List.{[]}
 use native.Mathlib.Omega.{arith}
 use Rattle.room.proofs.Counting.{counts-none}
 use Rattle.needs.proofs.Needing.{puts-as, row-hidden, row_other, row_told}
-use borrow.Author.Rules.{rules}
 use Rattle.needs.proofs.put_row_needs.Goals as goal
 
 pub returns-then-item-eq1 : goal.returns-then-item-eq1

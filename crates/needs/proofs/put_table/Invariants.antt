@@ -1,15 +1,7 @@
 -- `put_table` puts the lines of a count table. The invariant: the counts up to this one were read, and their lines were put. The measure is what is left of the item.
 -- Assumes nothing.
 use Prim.Native.Nat.{◌-◌, ◌*◌}
-use native.Mathlib.Omega.{arith}
-use Rattle.cursor.specs.Rows.{meta_frame}
-use Rattle.cursor.specs.Told.{number_told}
-use Rattle.machine.proofs.Laws.{was}
-use Rattle.cursor.proofs.Leaves.{number-inside}
-use Rattle.description.proofs.Ways.{product}
-use Rattle.needs.specs.Needed.{count_lines}
-use Rattle.needs.proofs.Needing.{Listing, listing_begun, listing_on, listing_cut, listing_left, listing_done, some}
-use borrow.Author.Rules.{rules}
+use Rattle.needs.proofs.Needing.{Listing}
 use Rattle.needs.proofs.put_table.Given as goal
 
 abbrev pub invariant-loop-i : goal.invariant-loop-i

@@ -3,8 +3,6 @@
 use mathlib.Core.Path.{sym, ◌∙◌}
 use Rattle.node.proofs.Ways.{unpacker-common}
 use native.Mathlib.Omega.{arith}
-use borrow.Author.Rules.{rules}
-use borrow.Author.Tests.{not-false}
 use Rattle.node.proofs.is_common.Goals as goal
 
 pub returns-then-not-is_numbered : goal.returns-then-not-is_numbered

@@ -1,11 +1,8 @@
 -- `read_entries` counts unpackers end to end. The invariant: what is left of them is the whole.
 -- Assumes nothing.
 use mathlib.Core.Path.{refl}
-use mathlib.Core.Path.{◌≡◌}
-use Prim.Native.Nat.{◌-◌}
-use Rattle.node.proofs.Ways.{Going, entries-begun, entries-done, entries-no, entries-further, entries-on}
+use Rattle.node.proofs.Ways.{entries-begun, entries-done, entries-no, entries-further, entries-on}
 use native.Mathlib.Omega.{arith}
-use borrow.Author.Rules.{rules}
 use Rattle.node.proofs.read_entries.Goals as goal
 
 pub loop-at-init : goal.loop-at-init

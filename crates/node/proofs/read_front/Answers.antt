@@ -9,8 +9,6 @@ use Rattle.node.specs.Told.{head_told, rest_told}
 use Rattle.node.proofs.Ends.{head-inside, metadata-since}
 use Rattle.node.proofs.Ways.{front-no, front-yes, front-head, front-metadata, front_rest, front-all}
 use native.Mathlib.Omega.{arith}
-use borrow.Author.Rules.{rules}
-use borrow.Author.Rules.{rules}
 use Rattle.node.proofs.read_front.Goals as goal
 
 pub of-inner-requires : goal.of-inner-requires

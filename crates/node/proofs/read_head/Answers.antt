@@ -7,7 +7,6 @@ use Rattle.machine.proofs.Laws.{was}
 use Rattle.cursor.proofs.Leaves.{number-inside}
 use Rattle.node.proofs.Ways.{head-size, head-past, head-short, head_meets, head-contained, head-folder, head-header}
 use native.Mathlib.Omega.{arith}
-use borrow.Author.Rules.{rules}
 use Rattle.node.proofs.read_head.Goals as goal
 
 pub of-stop-requires : goal.of-stop-requires

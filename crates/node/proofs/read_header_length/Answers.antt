@@ -5,7 +5,6 @@ use Rattle.cursor.specs.Told.{number_told}
 use Rattle.machine.proofs.Laws.{was}
 use Rattle.node.proofs.Ways.{header-cut, header-past, header-short, header-all}
 use native.Mathlib.Omega.{arith}
-use borrow.Author.Rules.{rules}
 use Rattle.node.proofs.read_header_length.Goals as goal
 
 pub number-requires : goal.number-requires

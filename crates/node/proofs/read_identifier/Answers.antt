@@ -4,7 +4,6 @@ use Rattle.cursor.specs.Rows.{unpack_frame}
 use Rattle.cursor.specs.Told.{pass_told}
 use Rattle.machine.proofs.Laws.{was}
 use Rattle.node.proofs.Ways.{identifier-guid, identifier-cut, identifier-two, identifier-one}
-use borrow.Author.Rules.{rules}
 use Rattle.node.proofs.read_identifier.Goals as goal
 
 pub returns-then-kind-eq3 : goal.returns-then-kind-eq3

@@ -6,7 +6,6 @@ use Rattle.machine.proofs.Laws.{was}
 use Rattle.cursor.proofs.Leaves.{number-inside}
 use Rattle.node.proofs.Ways.{reference-cut, reference-inline, reference-zero, reference-above, reference-folder, reference-file}
 use native.Mathlib.Omega.{arith}
-use borrow.Author.Rules.{rules}
 use Rattle.node.proofs.read_reference.Goals as goal
 
 pub overflow_sub-extent : goal.overflow_sub-extent

@@ -4,7 +4,6 @@ use Rattle.cursor.specs.Rows.{reference_frame}
 use Rattle.cursor.specs.Told.{number_told}
 use Rattle.machine.proofs.Laws.{was}
 use Rattle.node.proofs.Ways.{resource-cut, resource-before, resource-past, resource-all}
-use borrow.Author.Rules.{rules}
 use Rattle.node.proofs.read_resource.Goals as goal
 
 pub returns-then-offset-header_end : goal.returns-then-offset-header_end

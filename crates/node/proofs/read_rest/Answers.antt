@@ -3,7 +3,6 @@
 use Rattle.machine.proofs.Laws.{was}
 use Rattle.node.specs.Told.{unpackers_told, reference_told}
 use Rattle.node.proofs.Ways.{rest-unpackers, rest-left, rest-reference, rest_all}
-use borrow.Author.Rules.{rules}
 use Rattle.node.proofs.read_rest.Goals as goal
 
 pub returns-then-place-inner : goal.returns-then-place-inner

@@ -2,7 +2,6 @@
 -- Assumes nothing.
 use Rattle.node.proofs.Ways.{target-resource, target-node, target-uri}
 use native.Mathlib.Omega.{arith}
-use borrow.Author.Rules.{rules}
 use Rattle.node.proofs.read_target.Goals as goal
 
 pub returns-then-kind-eq2 : goal.returns-then-kind-eq2

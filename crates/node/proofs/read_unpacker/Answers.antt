@@ -8,7 +8,6 @@ use Rattle.cursor.specs.Told.{number_told, pass_told}
 use Rattle.machine.proofs.Laws.{was}
 use Rattle.node.proofs.Ways.{common_was, unpacker-cut, unpacker-bad, unpacker-identifier, unpacker-size}
 use native.Mathlib.Omega.{arith}
-use borrow.Author.Rules.{rules}
 use Rattle.node.proofs.read_unpacker.Goals as goal
 
 pub on-requires : goal.on-requires

@@ -6,7 +6,6 @@ use Rattle.machine.proofs.Laws.{was}
 use Rattle.cursor.proofs.Leaves.{block_inside}
 use Rattle.node.proofs.Ways.{unpackers-cut, unpackers-none, unpackers-folder, unpackers-file}
 use native.Mathlib.Omega.{arith}
-use borrow.Author.Rules.{rules}
 use Rattle.node.proofs.read_unpackers.Goals as goal
 
 pub returns-then-size-eq0 : goal.returns-then-size-eq0

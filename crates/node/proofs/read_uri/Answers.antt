@@ -6,7 +6,6 @@ use Rattle.machine.proofs.Laws.{was}
 use Rattle.cursor.proofs.Leaves.{block_inside}
 use Rattle.node.proofs.Ways.{uri_cut, uri_all}
 use native.Mathlib.Omega.{arith}
-use borrow.Author.Rules.{rules}
 use Rattle.node.proofs.read_uri.Goals as goal
 
 pub on-requires : goal.on-requires

@@ -4,7 +4,6 @@ use Rattle.cursor.specs.Rows.{unpack_frame}
 use Rattle.cursor.specs.Told.{number_told}
 use Rattle.machine.proofs.Laws.{was}
 use Rattle.node.proofs.Ways.{value-cut, value-all}
-use borrow.Author.Rules.{rules}
 use Rattle.node.proofs.read_value.Goals as goal
 
 pub returns-in-Refused : goal.returns-in-Refused

@@ -2,7 +2,6 @@
 -- Assumes nothing.
 use Rattle.room.proofs.Counting.{counts-then, counts-as}
 use Rattle.notes.proofs.Changes.{changes-are}
-use borrow.Author.Rules.{rules}
 use Rattle.notes.proofs.put_changes.Goals as goal
 
 pub returns : goal.returns

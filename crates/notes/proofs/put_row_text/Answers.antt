@@ -5,7 +5,6 @@ use Rattle.room.proofs.Counting.{counts-none, counts-as}
 use Rattle.file.proofs.Rows.{standing}
 use Rattle.file.proofs.Own.{item-rows}
 use Rattle.notes.proofs.Changes.{text-refused, text-past, text-none, text-is}
-use borrow.Author.Rules.{rules}
 use Rattle.notes.proofs.put_row_text.Goals as goal
 
 pub returns-then-s-row : goal.returns-then-s-row

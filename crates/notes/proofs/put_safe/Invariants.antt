@@ -1,13 +1,10 @@
 -- `put_safe` puts the safe text. The invariant: what is left is what the pieces from `at` on give.
 -- Assumes nothing.
 use Prim.Native.Nat.{◌-◌, ◌≤◌}
-use mathlib.Core.Path.{refl, ◌∙◌}
 use lib.ListN.{length}
-use native.Mathlib.Omega.{arith}
-use Rattle.room.proofs.Counting.{Going, going_start, going_on, going_end, going_length}
+use Rattle.room.proofs.Counting.{Going}
 use Rattle.notes.specs.Safe.{safe_text}
-use Rattle.notes.proofs.Safe.{size_in, left, left-start, left_end, byte_put, byte_cut, char-put, char-cut}
-use borrow.Author.Rules.{rules}
+use Rattle.notes.proofs.Safe.{left}
 use Rattle.notes.proofs.put_safe.Given as goal
 
 abbrev pub invariant-loop-at : goal.invariant-loop-at

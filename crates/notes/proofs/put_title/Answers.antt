@@ -4,7 +4,6 @@ use native.Mathlib.Omega.{arith}
 use Rattle.io.proofs.Counting.{prefix_len_of_le}
 use Rattle.room.proofs.Counting.{counts-then, counts-as}
 use Rattle.notes.proofs.Changes.{field-none, field_is}
-use borrow.Author.Rules.{rules}
 use Rattle.notes.proofs.put_title.Goals as goal
 
 pub returns-then-n-gt196608 : goal.returns-then-n-gt196608

@@ -1,7 +1,6 @@
 -- `safe_size` says what `safe_size` says of the text from a place on.
 -- Assumes nothing.
 use Rattle.notes.proofs.Safe.{size-bad, size-safe, size-other}
-use borrow.Author.Rules.{rules}
 use Rattle.notes.proofs.safe_size.Goals as goal
 
 pub returns-then-is_safe : goal.returns-then-is_safe

@@ -2,7 +2,6 @@
 -- Assumes nothing.
 use Rattle.lines.proofs.Ending.{gives_as}
 use Rattle.places.proofs.Origin.{origin-bad, origin-good, origin-room}
-use borrow.Author.Rules.{rules}
 use Rattle.places.proofs.make_origin.Goals as goal
 
 pub node_at-reference-requires : goal.node_at-reference-requires

@@ -2,7 +2,6 @@
 -- Assumes nothing.
 use Rattle.lines.proofs.Ending.{gives_as}
 use Rattle.places.proofs.Placed.{place-bad, place-good}
-use borrow.Author.Rules.{rules}
 use Rattle.places.proofs.make_place.Goals as goal
 
 pub returns-in-Refused : goal.returns-in-Refused

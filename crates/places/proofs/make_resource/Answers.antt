@@ -2,7 +2,6 @@
 -- Assumes nothing.
 use Rattle.lines.proofs.Ending.{gives_as}
 use Rattle.places.proofs.Placed.{resource-bad, resource-good, resource-in}
-use borrow.Author.Rules.{rules}
 use Rattle.places.proofs.make_resource.Goals as goal
 
 pub put_part-end-requires : goal.put_part-end-requires

@@ -2,7 +2,6 @@
 -- Assumes nothing.
 use Rattle.room.proofs.Counting.{counts-then, counts-as}
 use Rattle.places.proofs.Origin.{origin-hidden, origin-plain}
-use borrow.Author.Rules.{rules}
 use Rattle.places.proofs.put_origin.Goals as goal
 
 pub returns-then-reference-eq2 : goal.returns-then-reference-eq2

@@ -2,7 +2,6 @@
 -- Assumes nothing.
 use Rattle.room.proofs.Counting.{counts-then, counts-as}
 use Rattle.places.proofs.Placed.{place_is}
-use borrow.Author.Rules.{rules}
 use Rattle.places.proofs.put_place.Goals as goal
 
 pub returns : goal.returns

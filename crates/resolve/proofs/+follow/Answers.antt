@@ -2,7 +2,6 @@
 -- Assumes nothing.
 use Rattle.resolve.proofs.Chain.{at_folder, at_one, at_uri, two-many, three_many, two-on, three_on, next-there}
 use native.Mathlib.Omega.{arith}
-use Prim.Native.Nat.{ℕ, ◌<◌}
 use Rattle.resolve.proofs.+follow.Goals as goal
 
 pub node_at-row-requires : goal.node_at-row-requires

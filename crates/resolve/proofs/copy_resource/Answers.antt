@@ -2,7 +2,6 @@
 -- Assumes nothing.
 use lib.ListN.{length}
 use native.Mathlib.Omega.{arith}
-use borrow.Author.Rules.{rules}
 use Rattle.resolve.proofs.Exits.{part-inside}
 use Rattle.resolve.proofs.Copied.{zeros, copy-refused, copy-full, copy-good}
 use Rattle.resolve.proofs.copy_resource.Goals as goal

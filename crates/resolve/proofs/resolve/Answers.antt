@@ -3,7 +3,6 @@
 use lib.ListN.{length, replicate}
 use mathlib.Core.Path.{◌∙◌, ap}
 use Rattle.resolve.proofs.Exits.{ends_unread, rows-linked, rows-room, tree-among, rows-rising, ends_refused, ends_at}
-use borrow.Author.Rules.{rules}
 use Rattle.resolve.proofs.resolve.Goals as goal
 
 pub resolve_row-requires : goal.resolve_row-requires

@@ -1,7 +1,6 @@
 -- `resolve_row` gives what `resolve_row` gives of the rows.
 -- Assumes nothing.
 use Rattle.resolve.proofs.Chain.{row-none, row-there}
-use borrow.Author.Rules.{rules}
 use Rattle.resolve.proofs.resolve_row.Goals as goal
 
 pub returns-then-count-row : goal.returns-then-count-row

@@ -3,7 +3,6 @@
 use lib.ListN.{length}
 use Rattle.resolve.proofs.Exits.{part_none, part_at, part-inside}
 use native.Mathlib.Omega.{arith}
-use borrow.Author.Rules.{rules}
 use Rattle.resolve.proofs.resource.Goals as goal
 
 pub overflow_add-result : goal.overflow_add-result

@@ -1,7 +1,6 @@
 -- `row_starting` gives what `row_starting` gives. In the first loop rows before `low` start before the place and rows of the tree from `high` on after it; in the second no row so far starts there.
 -- Assumes nothing.
-use Prim.Native.Nat.{◌-◌, ◌≤◌}
-use Rattle.rows.proofs.Search.{Between, search_begins, search_later, search_sooner, search_found, NoneBefore, search_none, linear_on, linear_found, linear_ends}
+use Rattle.rows.proofs.Search.{search_begins, search_later, search_sooner, search_found, search_none, linear_on, linear_found, linear_ends}
 use native.Mathlib.Omega.{arith}
 use Rattle.rows.proofs.row_starting.Goals as goal
 

@@ -2,7 +2,6 @@
 -- Assumes nothing.
 use mathlib.Core.Path.{◌∙◌}
 use Rattle.sheet.proofs.Least.{least-hidden, least-name, least-standard, least-custom}
-use borrow.Author.Rules.{rules}
 use Rattle.sheet.proofs.least_line.Goals as goal
 
 pub returns-then-row-eq1 : goal.returns-then-row-eq1

@@ -1,14 +1,10 @@
 -- `put_group_lines` puts each node line with the lines of its item rows. The invariant: of the whole, the lines of the node rows from i on and of the item rows from `first` on
 -- are still to be put.
 -- Assumes nothing.
-use Prim.Native.Nat.{◌-◌, ◌≤◌}
 use mathlib.Core.Path.{refl}
-use Rattle.rows.specs.Rows.{nodes_from, nodes_in, items_from, items_in}
-use Rattle.sheet.specs.Sheet.{group_lines}
-use Rattle.sheet.proofs.Filling.{Filling, filling_start, filling_on, filling_end, filling_length}
+use Rattle.sheet.proofs.Filling.{filling_start, filling_on, filling_end}
 use native.Mathlib.Omega.{arith}
 use Rattle.sheet.proofs.Lines.{groups-start, groups-on, groups-end}
-use borrow.Author.Rules.{rules}
 use Rattle.sheet.proofs.put_group_lines.Goals as goal
 
 pub loop-i-init : goal.loop-i-init

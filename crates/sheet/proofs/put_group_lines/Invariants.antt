@@ -2,13 +2,9 @@
 -- are still to be put.
 -- Assumes nothing.
 use Prim.Native.Nat.{◌-◌, ◌≤◌}
-use mathlib.Core.Path.{refl}
 use Rattle.rows.specs.Rows.{nodes_from, nodes_in, items_from, items_in}
 use Rattle.sheet.specs.Sheet.{group_lines}
-use Rattle.sheet.proofs.Filling.{Filling, filling_start, filling_on, filling_end, filling_length}
-use native.Mathlib.Omega.{arith}
-use Rattle.sheet.proofs.Lines.{groups-start, groups-on, groups-end}
-use borrow.Author.Rules.{rules}
+use Rattle.sheet.proofs.Filling.{Filling}
 use Rattle.sheet.proofs.put_group_lines.Given as goal
 
 abbrev pub invariant-loop-i : goal.invariant-loop-i

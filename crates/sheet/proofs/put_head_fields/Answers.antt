@@ -1,7 +1,6 @@
 -- `put_head_fields` puts the first line behind its word.
 -- Assumes nothing.
 use Rattle.room.proofs.Counting.{counts-then}
-use borrow.Author.Rules.{rules}
 use Rattle.sheet.proofs.put_head_fields.Goals as goal
 
 pub returns : goal.returns

@@ -2,7 +2,6 @@
 -- Assumes nothing.
 use Rattle.room.proofs.Counting.{counts-then, counts-as}
 use Rattle.sheet.proofs.Lines.{item-is}
-use borrow.Author.Rules.{rules}
 use Rattle.sheet.proofs.put_item_line.Goals as goal
 
 pub item_at-requires : goal.item_at-requires

@@ -1,15 +1,9 @@
 -- `put_item_lines` puts the lines of the visible rows. The invariant: of the whole, the lines from row i on are still to be put.
 -- Assumes nothing.
-use Prim.Native.Nat.{◌+◌, ◌-◌, ◌≤◌}
-use mathlib.Core.Path.{refl, sym, ◌∙◌}
+use Prim.Native.Nat.{◌-◌, ◌≤◌}
 use Rattle.rows.specs.Rows.{items_from}
 use Rattle.sheet.specs.Sheet.{item_lines}
-use Rattle.sheet.specs.Inside.{least_lines}
-use borrow.Author.Tests.{leb-false, not-true}
-use Rattle.sheet.proofs.Filling.{fills-past, fills-counts, Filling, filling_start, filling_on, filling_past, filling_end, filling_length}
-use native.Mathlib.Omega.{arith}
-use Rattle.sheet.proofs.Lines.{items-on, items-end}
-use Rattle.sheet.proofs.Least.{lines-least}
+use Rattle.sheet.proofs.Filling.{Filling}
 use Rattle.sheet.proofs.put_item_lines.Given as goal
 
 abbrev pub invariant-loop-i : goal.invariant-loop-i

@@ -3,7 +3,6 @@
 use Rattle.room.proofs.Counting.{counts-then, counts-as}
 use Rattle.rows.proofs.Rows.{name_in}
 use Rattle.sheet.proofs.Lines.{label-standard, label-custom}
-use borrow.Author.Rules.{rules}
 use Rattle.sheet.proofs.put_label.Goals as goal
 
 pub put_escaped-requires : goal.put_escaped-requires

@@ -4,7 +4,6 @@ use Rattle.room.proofs.Counting.{counts-then, counts-as}
 use Rattle.sheet.proofs.Lines.{node-is}
 use Rattle.sheet.proofs.Filling.{fills-counts, fills-past}
 use native.Mathlib.Omega.{arith}
-use borrow.Author.Rules.{rules}
 use Rattle.sheet.proofs.put_node_line.Goals as goal
 
 pub returns-then-out-to : goal.returns-then-out-to

@@ -1,13 +1,9 @@
 -- `put_node_lines` puts the lines of the node rows. The invariant: of the whole, the lines from row i on are still to be put.
 -- Assumes nothing.
 use Prim.Native.Nat.{◌-◌, ◌≤◌}
-use mathlib.Core.Path.{sym}
 use Rattle.rows.specs.Rows.{nodes_from, nodes_in}
 use Rattle.sheet.specs.Sheet.{node_lines}
-use Rattle.sheet.proofs.Filling.{Filling, filling_start, filling_on, filling_end, filling_length}
-use Rattle.sheet.proofs.Lines.{nodes-on, nodes-end, nodes-start}
-use native.Mathlib.Omega.{arith}
-use borrow.Author.Rules.{rules}
+use Rattle.sheet.proofs.Filling.{Filling}
 use Rattle.sheet.proofs.put_node_lines.Given as goal
 
 abbrev pub invariant-loop-i : goal.invariant-loop-i

@@ -4,7 +4,6 @@ use native.Mathlib.Omega.{arith}
 use Rattle.room.proofs.Counting.{counts-then}
 use Rattle.sheet.proofs.Filling.{fills-counts, fills-then, fills-as}
 use Rattle.sheet.proofs.Lines.{put_second, put_first}
-use borrow.Author.Rules.{rules}
 use Rattle.sheet.proofs.put_sheet.Goals as goal
 
 pub put_group_lines-requires : goal.put_group_lines-requires

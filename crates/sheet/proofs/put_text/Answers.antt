@@ -2,7 +2,6 @@
 -- Assumes nothing.
 use Rattle.room.proofs.Counting.{counts-as}
 use Rattle.sheet.proofs.Lines.{text-unicode, text-plain}
-use borrow.Author.Rules.{rules}
 use Rattle.sheet.proofs.put_text.Goals as goal
 
 pub returns-then-row-eq2 : goal.returns-then-row-eq2

@@ -3,7 +3,6 @@
 use Rattle.room.proofs.Counting.{counts-none, counts-as}
 use Rattle.sheet.proofs.Lines.{line-hidden, line-shown}
 use native.Mathlib.Omega.{arith}
-use borrow.Author.Rules.{rules}
 use Rattle.sheet.proofs.put_visible_line.Goals as goal
 
 pub returns-then-item_at-eq1 : goal.returns-then-item_at-eq1

@@ -4,7 +4,6 @@ use Rattle.file.proofs.Rows.{standing}
 use Rattle.file.proofs.Own.{item-rows}
 use Rattle.sheet.proofs.Asked.{asked-refused, asked-good, asked-full, zeros}
 use native.Mathlib.Omega.{arith}
-use borrow.Author.Rules.{rules}
 use Rattle.sheet.proofs.write_edition.Goals as goal
 
 pub put_sheet-end-requires : goal.put_sheet-end-requires

@@ -1,6 +1,5 @@
 -- `write_sheet` writes the first edition.
 -- Assumes nothing.
-use borrow.Author.Rules.{rules}
 use Rattle.sheet.proofs.write_sheet.Goals as goal
 
 pub returns : goal.returns

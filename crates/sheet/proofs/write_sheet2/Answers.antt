@@ -1,6 +1,5 @@
 -- `write_sheet2` writes the second edition.
 -- Assumes nothing.
-use borrow.Author.Rules.{rules}
 use Rattle.sheet.proofs.write_sheet2.Goals as goal
 
 pub returns : goal.returns

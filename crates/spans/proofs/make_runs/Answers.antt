@@ -2,7 +2,6 @@
 -- Assumes nothing.
 use Rattle.lines.proofs.Ending.{gives_as}
 use Rattle.spans.proofs.Running.{runs-bad, stored, runs-good}
-use borrow.Author.Rules.{rules}
 use Rattle.spans.proofs.make_runs.Goals as goal
 
 pub slice_bounds-kinds-end : goal.slice_bounds-kinds-end

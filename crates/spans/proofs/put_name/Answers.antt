@@ -2,7 +2,6 @@
 -- Assumes nothing.
 use Rattle.room.proofs.Counting.{counts-as}
 use Rattle.spans.proofs.Running.{name-is, no_name}
-use borrow.Author.Rules.{rules}
 use Rattle.spans.proofs.put_name.Goals as goal
 
 pub returns-in-0 : goal.returns-in-0

@@ -2,7 +2,6 @@
 -- Assumes nothing.
 use Rattle.room.proofs.Counting.{counts-then, counts-as}
 use Rattle.spans.proofs.Running.{run_is}
-use borrow.Author.Rules.{rules}
 use Rattle.spans.proofs.put_run.Goals as goal
 
 pub returns : goal.returns

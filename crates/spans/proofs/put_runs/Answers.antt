@@ -1,13 +1,9 @@
 -- `put_runs` puts the lines of all runs. The invariant: of the whole, the lines of the runs from `place` on are still to be put.
 -- Assumes nothing.
 use mathlib.Core.Path.{refl}
-use Prim.Native.Nat.{◌-◌, ◌≤◌}
-use lib.ListN.{length}
 use native.Mathlib.Omega.{arith}
-use Rattle.room.proofs.Counting.{Going, going_start, going_on, going_end, going_length}
-use Rattle.spans.specs.Runs.{runs_of, run_lines, runs_at}
+use Rattle.room.proofs.Counting.{going_start, going_on, going_end}
 use Rattle.spans.proofs.Running.{lines_next, lines_none}
-use borrow.Author.Rules.{rules}
 use Rattle.spans.proofs.put_runs.Goals as goal
 
 pub loop-place-init : goal.loop-place-init

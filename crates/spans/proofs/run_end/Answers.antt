@@ -1,9 +1,7 @@
 -- `run_end` finds the end of a run. The invariant: the run goes on up to `at`.
 -- Assumes nothing.
-use Prim.Native.Nat.{◌-◌}
-use lib.ListN.{length}
 use native.Mathlib.Omega.{arith}
-use Rattle.spans.proofs.Running.{GoingOn, run-begun, run_on, run-stopped, run-last}
+use Rattle.spans.proofs.Running.{run-begun, run_on, run-stopped, run-last}
 use Rattle.spans.proofs.run_end.Goals as goal
 
 pub loop-at-init : goal.loop-at-init

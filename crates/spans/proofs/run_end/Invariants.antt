@@ -2,8 +2,7 @@
 -- Assumes nothing.
 use Prim.Native.Nat.{◌-◌}
 use lib.ListN.{length}
-use native.Mathlib.Omega.{arith}
-use Rattle.spans.proofs.Running.{GoingOn, run-begun, run_on, run-stopped, run-last}
+use Rattle.spans.proofs.Running.{GoingOn}
 use Rattle.spans.proofs.run_end.Given as goal
 
 abbrev pub invariant-loop-at : goal.invariant-loop-at

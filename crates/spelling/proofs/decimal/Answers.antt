@@ -1,10 +1,7 @@
 -- `decimal` reads digit after digit. The invariant: the value is that of the digits passed.
 -- Assumes nothing.
-use Prim.Native.Nat.{◌-◌, ◌≤◌, ◌<◌}
-use lib.ListN.{length}
 use native.Mathlib.Omega.{arith}
-use borrow.Author.Rules.{rules}
-use Rattle.spelling.proofs.Laws.{Reading, read_none, number-empty, read_low, read-high, read_more, read_all}
+use Rattle.spelling.proofs.Laws.{read_none, number-empty, read_low, read-high, read_more, read_all}
 use Rattle.spelling.proofs.decimal.Goals as goal
 
 pub returns-then-word-eq0 : goal.returns-then-word-eq0

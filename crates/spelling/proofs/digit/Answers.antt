@@ -1,6 +1,5 @@
 -- `digit` tells the three ranges of hex digits from what lies between them.
 -- Assumes nothing.
-use borrow.Author.Rules.{rules}
 use borrow.Author.Tests.{lt-ltb, le-ltb, le-leb, lt-leb}
 use Rattle.spelling.specs.Spelling.{hex_value}
 use Rattle.spelling.proofs.digit.Goals as goal

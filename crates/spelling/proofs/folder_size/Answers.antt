@@ -1,8 +1,5 @@
 -- `folder_size` looks from the end on. The invariant: no byte that it passed is a slash.
 -- Assumes nothing.
-use mathlib.Core.Path.{◌≡◌}
-use Prim.Native.Nat.{ℕ, ◌≤◌, ◌<◌}
-use lib.ListN.{length, get_or}
 use native.Mathlib.Omega.{arith}
 use Rattle.io.proofs.Counting.{prefix_len_of_le}
 use Rattle.spelling.proofs.Laws.{slash_before}

@@ -3,9 +3,6 @@
 use mathlib.Core.Path.{◌≡◌}
 use Prim.Native.Nat.{ℕ, ◌≤◌, ◌<◌}
 use lib.ListN.{length, get_or}
-use native.Mathlib.Omega.{arith}
-use Rattle.io.proofs.Counting.{prefix_len_of_le}
-use Rattle.spelling.proofs.Laws.{slash_before}
 use Rattle.spelling.proofs.folder_size.Given as goal
 
 abbrev pub invariant-loop-n : goal.invariant-loop-n

@@ -1,11 +1,7 @@
 -- `has_high` looks at byte after byte. The invariant: what is left decides.
 -- Assumes nothing.
-use mathlib.Core.Path.{◌≡◌, refl}
-use Prim.Native.Nat.{◌-◌, ◌≤◌}
-use lib.ListN.{length, drop}
+use mathlib.Core.Path.{refl}
 use native.Mathlib.Omega.{arith}
-use borrow.Author.Rules.{rules}
-use Rattle.spelling.specs.Spelling.{has_high}
 use Rattle.spelling.proofs.Laws.{high-here, high-on, high-none}
 use Rattle.spelling.proofs.has_high.Goals as goal
 

@@ -1,12 +1,9 @@
 -- `has_high` looks at byte after byte. The invariant: what is left decides.
 -- Assumes nothing.
-use mathlib.Core.Path.{◌≡◌, refl}
+use mathlib.Core.Path.{◌≡◌}
 use Prim.Native.Nat.{◌-◌, ◌≤◌}
 use lib.ListN.{length, drop}
-use native.Mathlib.Omega.{arith}
-use borrow.Author.Rules.{rules}
 use Rattle.spelling.specs.Spelling.{has_high}
-use Rattle.spelling.proofs.Laws.{high-here, high-on, high-none}
 use Rattle.spelling.proofs.has_high.Given as goal
 
 abbrev pub invariant-loop-i : goal.invariant-loop-i

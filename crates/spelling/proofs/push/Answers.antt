@@ -1,7 +1,6 @@
 -- `push` adds a digit, or gives the largest word.
 -- Assumes nothing.
 use native.Mathlib.Omega.{arith}
-use borrow.Author.Rules.{rules}
 use Rattle.spelling.specs.Spelling.{held}
 use Rattle.spelling.proofs.push.Goals as goal
 

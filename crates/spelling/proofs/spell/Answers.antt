@@ -1,10 +1,9 @@
 -- `spell` stores a byte of each two digits. The invariant: the bytes of the digits passed are stored.
 -- Assumes nothing.
-use Prim.Native.Nat.{◌*◌, ◌+◌, ◌-◌, ◌≤◌, ◌<◌, ◌/◌}
+use Prim.Native.Nat.{◌*◌, ◌+◌, ◌<◌}
 use lib.ListN.{length}
 use native.Mathlib.Omega.{arith}
-use borrow.Author.Rules.{rules}
-use Rattle.spelling.proofs.Laws.{spelt_none, Storing, store_none, store_more, store_all}
+use Rattle.spelling.proofs.Laws.{spelt_none, store_none, store_more, store_all}
 use Rattle.spelling.proofs.spell.Goals as goal
 
 pub returns-then-digits-ne0 : goal.returns-then-digits-ne0

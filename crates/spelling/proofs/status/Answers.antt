@@ -10,7 +10,6 @@ use mir.Syntax.{w32}
 use mir.Val.{SFits}
 use mir.ValLaws.{to_z-of_z}
 use borrow.Author.Rules.{rules}
-use borrow.Author.Tests.{not-true, not-false}
 use Rattle.io.proofs.Counting.{prefix_len_of_le}
 use Rattle.spelling.specs.Spelling.{descriptor_of}
 use Rattle.spelling.proofs.Laws.{last_byte_lem}

@@ -1,7 +1,6 @@
 -- `read_from` counts the bytes that were read.
 -- Assumes nothing.
 use Rattle.program.proofs.Inputs.{input_counted}
-use borrow.Author.Rules.{rules}
 use Rattle.storage.proofs.read_from.Goals as goal
 
 pub returns-in-Bytes : goal.returns-in-Bytes

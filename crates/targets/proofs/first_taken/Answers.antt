@@ -1,12 +1,11 @@
 -- `first_taken` goes over the rows from the last on. The invariant: what the rows from row i on take.
 -- Assumes nothing.
 use mathlib.Core.Path.{ap, ◌∙◌}
-use Prim.Native.Nat.{◌-◌, ◌+◌, ◌≤◌, min}
+use Prim.Native.Nat.{◌-◌, ◌+◌, min}
 use Rattle.cursor.specs.declared.Node.{Node}
 use Rattle.rows.proofs.Rows.{row_is}
-use Rattle.targets.proofs.Targets.{TakenTo, taken-begun, taken_here, taken-past, taken-other, taken-done}
+use Rattle.targets.proofs.Targets.{taken-begun, taken_here, taken-past, taken-other, taken-done}
 use native.Mathlib.Omega.{arith}
-use borrow.Author.Rules.{rules}
 use Rattle.targets.proofs.first_taken.Goals as goal
 
 pub loop-i-init : goal.loop-i-init

@@ -9,7 +9,6 @@ use Rattle.machine.proofs.Laws.{was}
 use Rattle.rows.proofs.Rows.{row_is}
 use Rattle.targets.proofs.Targets.{offset_is}
 use native.Mathlib.Omega.{arith}
-use borrow.Author.Rules.{rules}
 use Rattle.targets.proofs.offset_at.Goals as goal
 
 pub node_at-row-requires : goal.node_at-row-requires

@@ -5,7 +5,6 @@ use Prim.Native.Nat.{◌+◌, min, max}
 use Rattle.cursor.specs.declared.Node.{Node}
 use Rattle.rows.proofs.Rows.{row_is}
 use native.Mathlib.Omega.{arith}
-use borrow.Author.Rules.{rules}
 use Rattle.targets.proofs.with_row.Goals as goal
 
 pub returns-then-count-known : goal.returns-then-count-known

@@ -2,7 +2,6 @@
 -- Assumes nothing.
 use mathlib.Core.Path.{◌∙◌}
 use Rattle.text.proofs.LowBytes.{letter-none, letter-is}
-use borrow.Author.Rules.{rules}
 use Rattle.text.proofs.is_letter.Goals as goal
 
 pub returns-then-units-at-ne0 : goal.returns-then-units-at-ne0

@@ -1,12 +1,8 @@
 -- `letters` counts units that stand for themselves. The invariant: n of them do.
 -- Assumes nothing.
-use mathlib.Core.Path.{sym, ◌∙◌}
 use Prim.Native.Nat.{◌+◌, ◌*◌, ◌-◌, ◌≤◌}
 use lib.ListN.{length}
-use borrow.Author.Tests.{not-false}
 use Rattle.text.specs.Inside.{Letters}
-use Rattle.text.proofs.LowBytes.{letters_none, letters_more}
-use native.Mathlib.Omega.{arith}
 use Rattle.text.proofs.letters.Given as goal
 
 abbrev pub invariant-loop-n : goal.invariant-loop-n

@@ -2,7 +2,6 @@
 -- Assumes nothing.
 use Rattle.text.proofs.LowBytes.{letters_none}
 use native.Mathlib.Omega.{arith}
-use borrow.Author.Rules.{rules}
 use Rattle.text.proofs.letters_with.Goals as goal
 
 pub returns-then-first-ge128 : goal.returns-then-first-ge128

@@ -1,11 +1,7 @@
 -- `plain_end` passes bytes that stand for themselves. The invariant: those up to `at` do.
 -- Assumes nothing.
 use mathlib.Core.Path.{sym, ◌∙◌}
-use Prim.Native.Nat.{◌-◌, ◌≤◌}
-use borrow.Author.Tests.{not-false}
-use Rattle.text.specs.Inside.{PlainUpTo}
 use Rattle.text.proofs.Escapes.{plain-none, plain-one, plain-join}
-use borrow.Author.Rules.{rules}
 use native.Mathlib.Omega.{arith}
 use Rattle.text.proofs.plain_end.Goals as goal
 

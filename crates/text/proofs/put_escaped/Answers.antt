@@ -1,12 +1,8 @@
 -- `put_escaped` puts the escaped bytes of a part. The invariant: of the whole, the bytes from `at` on are still to be put.
 -- Assumes nothing.
 use mathlib.Core.Path.{refl, sym, ◌∙◌}
-use Prim.Native.Nat.{◌-◌, ◌≤◌}
-use lib.ListN.{length}
-use Rattle.text.specs.Text.{escaped_part}
-use Rattle.room.proofs.Counting.{Going, going_start, going_on, going_end, going_length}
+use Rattle.room.proofs.Counting.{going_start, going_on, going_end}
 use Rattle.text.proofs.Escapes.{plain-one, plain-join, put-plain, put-hexed, put-none, put-start, escaped-cut}
-use borrow.Author.Rules.{rules}
 use native.Mathlib.Omega.{arith}
 use Rattle.text.proofs.put_escaped.Goals as goal
 

@@ -3,7 +3,6 @@
 use mathlib.Core.Path.{sym, ◌∙◌}
 use Rattle.room.proofs.Counting.{counts-as}
 use Rattle.text.proofs.Escapes.{escaped-plain, escaped-hex}
-use borrow.Author.Rules.{rules}
 use Rattle.text.proofs.put_escaped_byte.Goals as goal
 
 pub returns-then-is_plain : goal.returns-then-is_plain

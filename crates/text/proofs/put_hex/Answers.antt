@@ -5,7 +5,6 @@ use lib.ListN.{length-set, get_or}
 use Rattle.room.proofs.Counting.{counts-as, counts-over, counts-stored}
 use Rattle.text.proofs.Escapes.{hexed-is, stored-three}
 use native.Mathlib.Omega.{arith}
-use borrow.Author.Rules.{rules}
 use Rattle.text.proofs.put_hex.Goals as goal
 
 pub returns-then-room_at-to : goal.returns-then-room_at-to

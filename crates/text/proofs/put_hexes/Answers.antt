@@ -1,12 +1,8 @@
 -- `put_hexes` puts bytes that do not stand for themselves. The invariant: those up to `at` are put.
 -- Assumes nothing.
 use mathlib.Core.Path.{sym, ◌∙◌}
-use Prim.Native.Nat.{◌-◌, ◌≤◌}
-use Rattle.text.specs.Text.{escaped_part}
-use Rattle.room.specs.Counts.{Counts}
 use Rattle.room.proofs.Counting.{counts-none, counts-then, counts-as}
 use Rattle.text.proofs.Escapes.{escaped-none, hexed-more}
-use borrow.Author.Rules.{rules}
 use native.Mathlib.Omega.{arith}
 use Rattle.text.proofs.put_hexes.Goals as goal
 

@@ -1,12 +1,8 @@
 -- `put_lows` puts the low bytes of units where there is room for all of them. The invariant: the first i are stored.
 -- Assumes nothing.
 use Prim.Native.Nat.{◌-◌}
-use Rattle.room.proofs.Counting.{counts-over, counts-stored}
-use Rattle.room.proofs.Storing.{Storing, none, more, all}
+use Rattle.room.proofs.Storing.{Storing}
 use Rattle.text.specs.Inside.{lows}
-use Rattle.text.proofs.LowBytes.{lows-length, lows-at}
-use native.Mathlib.Omega.{arith}
-use borrow.Author.Rules.{rules}
 use Rattle.text.proofs.put_lows.Given as goal
 
 abbrev pub invariant-loop-i : goal.invariant-loop-i

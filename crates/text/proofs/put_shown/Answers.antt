@@ -2,15 +2,12 @@
 -- Assumes nothing.
 use mathlib.Core.Path.{sym, ap, ◌∙◌}
 use Rattle.utf16.specs.Told.{char_told}
-use Prim.Native.Nat.{◌-◌}
-use lib.ListN.{length}
-use Rattle.utf16.specs.Unicode.{first16, to_utf8}
+use Rattle.utf16.specs.Unicode.{to_utf8}
 use Rattle.utf16.proofs.Sixteen.{form16}
-use Rattle.utf16.proofs.Converting.{Converting, conv_start, conv_on, conv_bad, conv_length, char-in}
-use Rattle.text.proofs.Shown.{shown8, as_shown, shown-start, shown-end, shown-never}
+use Rattle.utf16.proofs.Converting.{conv_start, conv_on, conv_bad, char-in}
+use Rattle.text.proofs.Shown.{shown-start, shown-end, shown-never}
 use Rattle.text.proofs.LowBytes.{conv_letters}
 use native.Mathlib.Omega.{arith}
-use borrow.Author.Rules.{rules}
 use Rattle.text.proofs.put_shown.Goals as goal
 
 pub loop-at-init : goal.loop-at-init

@@ -1,16 +1,10 @@
 -- `put_shown` puts a converted text as it is shown. The invariant: what is left is what the bytes from `at` on give.
 -- Assumes nothing.
-use mathlib.Core.Path.{sym, ap, ◌∙◌}
-use Rattle.utf16.specs.Told.{char_told}
 use Prim.Native.Nat.{◌-◌}
 use lib.ListN.{length}
 use Rattle.utf16.specs.Unicode.{first16, to_utf8}
-use Rattle.utf16.proofs.Sixteen.{form16}
-use Rattle.utf16.proofs.Converting.{Converting, conv_start, conv_on, conv_bad, conv_length, char-in}
-use Rattle.text.proofs.Shown.{shown8, as_shown, shown-start, shown-end, shown-never}
-use Rattle.text.proofs.LowBytes.{conv_letters}
-use native.Mathlib.Omega.{arith}
-use borrow.Author.Rules.{rules}
+use Rattle.utf16.proofs.Converting.{Converting}
+use Rattle.text.proofs.Shown.{shown8, as_shown}
 use Rattle.text.proofs.put_shown.Given as goal
 
 abbrev pub invariant-loop-at : goal.invariant-loop-at

@@ -2,7 +2,6 @@
 -- Assumes nothing.
 use Rattle.room.proofs.Counting.{counts-as}
 use Rattle.text.proofs.Shown.{shown-low, shown-high}
-use borrow.Author.Rules.{rules}
 use Rattle.text.proofs.put_shown_char.Goals as goal
 
 pub returns-then-c-lt128 : goal.returns-then-c-lt128

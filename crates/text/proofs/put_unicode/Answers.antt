@@ -5,7 +5,6 @@ use Rattle.room.proofs.Counting.{counts-as, lent-part}
 use Rattle.text.proofs.Shown.{unicode-good, unicode-bad}
 use Rattle.text.proofs.LowBytes.{lent_length, letters_text}
 use native.Mathlib.Omega.{arith}
-use borrow.Author.Rules.{rules}
 use Rattle.text.proofs.put_unicode.Goals as goal
 
 pub letters-n-requires : goal.letters-n-requires

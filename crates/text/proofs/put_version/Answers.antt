@@ -2,7 +2,6 @@
 -- Assumes nothing.
 use Rattle.room.proofs.Counting.{counts-then, counts-as}
 use Rattle.text.proofs.Numbers.{version-is}
-use borrow.Author.Rules.{rules}
 use Rattle.text.proofs.put_version.Goals as goal
 
 pub returns : goal.returns

@@ -6,7 +6,6 @@ use lib.ListN.{length}
 use lib.Seq.{length-take-le}
 use Rattle.file.proofs.Rows.{standing}
 use Rattle.title.proofs.Asked.{asked-refused, reads_as, stands, asked-bad, file-inside, asked-good, zeros}
-use borrow.Author.Rules.{rules}
 use Rattle.title.proofs.correct_title.Goals as goal
 
 pub write_titled-requires : goal.write_titled-requires

@@ -1,7 +1,6 @@
 -- `is_no_title` tests the format, then the version.
 -- Assumes nothing.
 use Rattle.title.proofs.Refusals.{hidden, unhidden}
-use borrow.Author.Rules.{rules}
 use Rattle.title.proofs.is_no_title.Goals as goal
 
 pub returns-then-item-eq1 : goal.returns-then-item-eq1

@@ -1,8 +1,6 @@
 -- `refers_elsewhere` looks at row after row. The invariant: no row so far has reference 2 or 3.
 -- Assumes nothing.
-use borrow.Author.Rules.{rules}
-use Prim.Native.Nat.{◌-◌}
-use Rattle.title.proofs.Refusals.{Looking, looking_start, looking_two, looking_three, looking_on, looking_end}
+use Rattle.title.proofs.Refusals.{looking_start, looking_two, looking_three, looking_on, looking_end}
 use Rattle.title.proofs.refers_elsewhere.Goals as goal
 
 pub loop-i-init : goal.loop-i-init

@@ -1,8 +1,7 @@
 -- `refers_elsewhere` looks at row after row. The invariant: no row so far has reference 2 or 3.
 -- Assumes nothing.
-use borrow.Author.Rules.{rules}
 use Prim.Native.Nat.{◌-◌}
-use Rattle.title.proofs.Refusals.{Looking, looking_start, looking_two, looking_three, looking_on, looking_end}
+use Rattle.title.proofs.Refusals.{Looking}
 use Rattle.title.proofs.refers_elsewhere.Given as goal
 
 abbrev pub invariant-loop-i : goal.invariant-loop-i

@@ -1,7 +1,6 @@
 -- `refusal_of` tests in the order of the refusals.
 -- Assumes nothing.
 use Rattle.title.proofs.Refusals.{refuses_row, refuses_reference, refuses_content, refuses_none}
-use borrow.Author.Rules.{rules}
 use Rattle.title.proofs.refusal_of.Goals as goal
 
 pub returns-then-total-row : goal.returns-then-total-row

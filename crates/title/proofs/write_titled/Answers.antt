@@ -5,7 +5,6 @@ use mathlib.Core.Path.{refl}
 use Rattle.header.specs.Header.{Header}
 use Rattle.metadata.specs.declared.Limits.{Limits}
 use Rattle.title.proofs.Asked.{rows-refuse, rows_stay, too_large_lem, no_room_lem, wrote}
-use borrow.Author.Rules.{rules}
 use Rattle.title.proofs.write_titled.Goals as goal
 
 pub returns-then-refusal-ne0 : goal.returns-then-refusal-ne0

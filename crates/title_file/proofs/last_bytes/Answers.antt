@@ -1,7 +1,6 @@
 -- `last_bytes` gives the least count for TreeEnd.
 -- Assumes nothing.
 use Rattle.title_nodes.proofs.Lengths.{last_found}
-use borrow.Author.Rules.{rules}
 use Rattle.title_file.proofs.last_bytes.Goals as goal
 
 pub returns : goal.returns

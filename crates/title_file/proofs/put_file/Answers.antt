@@ -4,7 +4,6 @@ use native.Mathlib.Omega.{arith}
 use Rattle.title_nodes.proofs.Lengths.{tree-few}
 use Rattle.title_nodes.proofs.Nodes.{stopped_length}
 use Rattle.title_file.proofs.Files.{file-stops, copied-put}
-use borrow.Author.Rules.{rules}
 use Rattle.title_file.proofs.put_file.Goals as goal
 
 pub measure_tree-tree-requires : goal.measure_tree-tree-requires

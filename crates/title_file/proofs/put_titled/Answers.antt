@@ -5,7 +5,6 @@ use Rattle.metadata.specs.declared.Limits.{Limits}
 use Rattle.title_file.proofs.Ready.{ready, tree_is}
 use Rattle.title_file.proofs.Headed.{never_refused, header-inside, file-same}
 use Rattle.title_file.proofs.Files.{fills-as}
-use borrow.Author.Rules.{rules}
 use Rattle.title_file.proofs.put_titled.Goals as goal
 
 pub put_file-requires : goal.put_file-requires

@@ -5,7 +5,6 @@ use mathlib.Core.Path.{◌≡◌, ap, ◌∙◌}
 use Prim.Native.Nat.{ℕ}
 use Rattle.vlq.proofs.Least.{least-in}
 use Rattle.title_text.specs.Text.{start_with, last_bytes, start_bytes, start_at}
-use borrow.Author.Rules.{rules}
 use Rattle.title_file.proofs.start_at.Goals as goal
 
 pub start_with-requires : goal.start_with-requires

@@ -2,7 +2,6 @@
 -- Assumes nothing.
 use native.Mathlib.Omega.{arith}
 use Rattle.title_nodes.proofs.Lengths.{last-few}
-use borrow.Author.Rules.{rules}
 use Rattle.title_file.proofs.start_with.Goals as goal
 
 pub overflow_add-result-2 : goal.overflow_add-result-2

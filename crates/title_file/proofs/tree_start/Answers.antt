@@ -6,7 +6,6 @@ use Prim.Native.Nat.{ℕ, ◌+◌}
 use Rattle.vlq.proofs.Least.{least-in}
 use Rattle.title_text.specs.Text.{start_at, file_bytes}
 use Rattle.title_nodes.proofs.Lengths.{start-few}
-use borrow.Author.Rules.{rules}
 use Rattle.title_file.proofs.tree_start.Goals as goal
 
 pub overflow_add-one : goal.overflow_add-one

@@ -1,9 +1,7 @@
 -- `further` counts. The invariant: the rows passed are further versions.
 -- Assumes nothing.
-use Rattle.title_items.proofs.Putting.{Counting, counting_start, counting_on, counting_stop, counting_end}
-use Prim.Native.Nat.{◌-◌}
+use Rattle.title_items.proofs.Putting.{counting_start, counting_on, counting_stop, counting_end}
 use native.Mathlib.Omega.{arith}
-use borrow.Author.Rules.{rules}
 use Rattle.title_items.proofs.further.Goals as goal
 
 pub loop-k-init : goal.loop-k-init

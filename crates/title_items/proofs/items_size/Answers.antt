@@ -1,8 +1,7 @@
 -- `items_size` counts row after row. The invariant: what is counted and what is left are the whole.
 -- Assumes nothing.
-use Prim.Native.Nat.{◌-◌}
 use native.Mathlib.Omega.{arith}
-use Rattle.title_items.proofs.Putting.{Summing, summing_start, summing_on, summing_end}
+use Rattle.title_items.proofs.Putting.{summing_start, summing_on, summing_end}
 use Rattle.title_items.proofs.items_size.Goals as goal
 
 pub loop-k-init : goal.loop-k-init

@@ -3,7 +3,6 @@
 use mathlib.Core.List.{List}
 use Prim.Native.Nat.{ℕ}
 use Rattle.title_text.proofs.Counted.{counts-sized}
-use borrow.Author.Rules.{rules}
 use Rattle.title_items.proofs.measure_block.Goals as goal
 
 pub returns : goal.returns

@@ -5,7 +5,6 @@ use mathlib.Core.Path.{refl}
 use Prim.Native.Nat.{ℕ}
 use native.Mathlib.Omega.{arith}
 use Rattle.title_items.proofs.Putting.{content-universal, content-version, universal-counted, version-counted}
-use borrow.Author.Rules.{rules}
 use Rattle.title_items.proofs.measure_content.Goals as goal
 
 pub returns-then-item-eq0 : goal.returns-then-item-eq0

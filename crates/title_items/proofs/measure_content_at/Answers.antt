@@ -4,7 +4,6 @@ use mathlib.Core.List.{List}
 use mathlib.Core.Path.{sym}
 use Prim.Native.Nat.{ℕ}
 use Rattle.title_items.proofs.Putting.{title-counted, file-counted}
-use borrow.Author.Rules.{rules}
 use Rattle.title_items.proofs.measure_content_at.Goals as goal
 
 pub returns-then-row-k : goal.returns-then-row-k

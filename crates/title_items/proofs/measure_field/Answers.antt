@@ -4,7 +4,6 @@ use mathlib.Core.List.{List}
 use Prim.Native.Nat.{ℕ}
 use native.Mathlib.Omega.{arith}
 use Rattle.title_items.proofs.Putting.{custom-counted, standard-counted}
-use borrow.Author.Rules.{rules}
 use Rattle.title_items.proofs.measure_field.Goals as goal
 
 pub returns-then-item-eq1 : goal.returns-then-item-eq1

@@ -3,7 +3,6 @@
 use mathlib.Core.List.{List}
 use Prim.Native.Nat.{ℕ}
 use Rattle.title_items.proofs.Putting.{row_first, row-further}
-use borrow.Author.Rules.{rules}
 use Rattle.title_items.proofs.measure_item.Goals as goal
 
 pub returns-then-item_at-le1 : goal.returns-then-item_at-le1

@@ -4,7 +4,6 @@ use mathlib.Core.List.{List}
 use Prim.Native.Nat.{ℕ}
 use Rattle.title_text.proofs.Counted.{counts-number}
 use Rattle.title_items.proofs.Putting.{start-universal, start-versions, row_inside, zero-counted}
-use borrow.Author.Rules.{rules}
 use Rattle.title_items.proofs.measure_start.Goals as goal
 
 pub returns-then-item-eq0 : goal.returns-then-item-eq0

@@ -3,7 +3,6 @@
 use mathlib.Core.List.{List}
 use Prim.Native.Nat.{ℕ}
 use Rattle.title_items.proofs.Putting.{content-universal, content-version}
-use borrow.Author.Rules.{rules}
 use Rattle.title_items.proofs.put_content.Goals as goal
 
 pub returns-then-item-eq0 : goal.returns-then-item-eq0

@@ -3,7 +3,6 @@
 use native.Mathlib.Omega.{arith}
 use mathlib.Core.Path.{refl}
 use Rattle.title_items.proofs.Putting.{row_inside, content-title, content-file}
-use borrow.Author.Rules.{rules}
 use Rattle.title_items.proofs.put_content_at.Goals as goal
 
 pub returns-then-k-row : goal.returns-then-k-row

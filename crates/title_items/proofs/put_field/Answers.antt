@@ -2,7 +2,6 @@
 -- Assumes nothing.
 use Rattle.rows.proofs.Rows.{name_in}
 use Rattle.title_items.proofs.Putting.{field-custom, field-standard}
-use borrow.Author.Rules.{rules}
 use Rattle.title_items.proofs.put_field.Goals as goal
 
 pub put_part-requires : goal.put_part-requires

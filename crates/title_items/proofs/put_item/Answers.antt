@@ -1,7 +1,6 @@
 -- `put_item` puts a row, with what its item has before it where it is the first of the item.
 -- Assumes nothing.
 use Rattle.title_items.proofs.Putting.{row_first, row-further}
-use borrow.Author.Rules.{rules}
 use Rattle.title_items.proofs.put_item.Goals as goal
 
 pub returns-then-item_at-le1 : goal.returns-then-item_at-le1

@@ -1,13 +1,9 @@
 -- `put_items` puts rows. The invariant: of the whole, the rows from row k on are still to be put.
 -- Assumes nothing.
 use Rattle.title_items.proofs.Putting.{rows_on, rows_end}
-use Rattle.room.proofs.Counting.{Going, going_start, going_on, going_end, going_length}
-use Rattle.title_items.specs.Contents.{contents_from}
-use Rattle.title_text.specs.Text.{items_text}
+use Rattle.room.proofs.Counting.{going_start, going_on, going_end}
 use mathlib.Core.Path.{refl}
-use Prim.Native.Nat.{◌-◌, ◌≤◌}
 use native.Mathlib.Omega.{arith}
-use borrow.Author.Rules.{rules}
 use Rattle.title_items.proofs.put_items.Goals as goal
 
 pub loop-k-init : goal.loop-k-init

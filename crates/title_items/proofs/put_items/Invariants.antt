@@ -1,13 +1,9 @@
 -- `put_items` puts rows. The invariant: of the whole, the rows from row k on are still to be put.
 -- Assumes nothing.
-use Rattle.title_items.proofs.Putting.{rows_on, rows_end}
-use Rattle.room.proofs.Counting.{Going, going_start, going_on, going_end, going_length}
+use Rattle.room.proofs.Counting.{Going}
 use Rattle.title_items.specs.Contents.{contents_from}
 use Rattle.title_text.specs.Text.{items_text}
-use mathlib.Core.Path.{refl}
 use Prim.Native.Nat.{◌-◌, ◌≤◌}
-use native.Mathlib.Omega.{arith}
-use borrow.Author.Rules.{rules}
 use Rattle.title_items.proofs.put_items.Given as goal
 
 abbrev pub invariant-loop-k : goal.invariant-loop-k

@@ -2,7 +2,6 @@
 -- Assumes nothing.
 use native.Mathlib.Omega.{arith}
 use Rattle.title_items.proofs.Putting.{row_inside, start-universal, start-versions}
-use borrow.Author.Rules.{rules}
 use Rattle.title_items.proofs.put_start.Goals as goal
 
 pub put_field-a-requires : goal.put_field-a-requires

@@ -1,7 +1,6 @@
 -- `put_text` puts string format and data.
 -- Assumes nothing.
 use Rattle.room.proofs.Counting.{put_two}
-use borrow.Author.Rules.{rules}
 use Rattle.title_items.proofs.put_text.Goals as goal
 
 pub returns : goal.returns

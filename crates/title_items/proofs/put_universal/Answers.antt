@@ -1,7 +1,6 @@
 -- `put_universal` counts string format and data, and puts their length and them.
 -- Assumes nothing.
 use Rattle.title_items.proofs.Putting.{text-sized}
-use borrow.Author.Rules.{rules}
 use Rattle.title_items.proofs.put_universal.Goals as goal
 
 pub returns : goal.returns

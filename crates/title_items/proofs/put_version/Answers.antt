@@ -3,7 +3,6 @@
 use mathlib.Core.Path.{refl}
 use Rattle.room.proofs.Counting.{put_two}
 use Rattle.vlq.proofs.Sized.{put-block}
-use borrow.Author.Rules.{rules}
 use Rattle.title_items.proofs.put_version.Goals as goal
 
 pub returns : goal.returns

@@ -2,7 +2,6 @@
 -- Assumes nothing.
 use native.Mathlib.Omega.{arith}
 use Rattle.title_nodes.proofs.Runs.{append_on, append_new}
-use borrow.Author.Rules.{rules}
 use Rattle.title_nodes.proofs.extend.Goals as goal
 
 pub overflow_add-run : goal.overflow_add-run

@@ -8,7 +8,6 @@ use Rattle.title_text.specs.Description.{Content, shape}
 use Rattle.title_text.specs.Text.{header_size}
 use Rattle.title_nodes.proofs.Lengths.{few, header-few, length-few}
 use Rattle.title_nodes.proofs.Nodes.{body-inside, own_put, stopped_length, unpackers-counted, framed-by}
-use borrow.Author.Rules.{rules}
 use Rattle.title_nodes.proofs.frame_of.Goals as goal
 
 pub overflow_add-fixed : goal.overflow_add-fixed

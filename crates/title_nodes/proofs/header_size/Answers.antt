@@ -4,7 +4,6 @@ use native.Mathlib.Omega.{arith}
 use Prim.Native.Nat.{◌+◌}
 use Rattle.vlq.proofs.Least.{least-in}
 use Rattle.title_nodes.proofs.Lengths.{header-found}
-use borrow.Author.Rules.{rules}
 use Rattle.title_nodes.proofs.header_size.Goals as goal
 
 pub overflow_add-result : goal.overflow_add-result

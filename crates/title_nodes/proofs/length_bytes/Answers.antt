@@ -5,7 +5,6 @@ use Prim.Native.Nat.{◌+◌}
 use mathlib.Core.Path.{ap}
 use Rattle.title_text.specs.Text.{header_size, length_bytes}
 use Rattle.title_nodes.proofs.Lengths.{header-few}
-use borrow.Author.Rules.{rules}
 use Rattle.title_nodes.proofs.length_bytes.Goals as goal
 
 pub overflow_add-one : goal.overflow_add-one

@@ -3,7 +3,6 @@
 use mathlib.Core.List.{List}
 use Prim.Native.Nat.{ℕ}
 use Rattle.title_nodes.proofs.Nodes.{uri_counted, inline_counted}
-use borrow.Author.Rules.{rules}
 use Rattle.title_nodes.proofs.measure_reference.Goals as goal
 
 pub returns-then-reference-eq4 : goal.returns-then-reference-eq4

@@ -1,11 +1,7 @@
 -- `measure_tree` goes from the last row to the first. The invariant: the rows from row i on are measured, and the stack has the sizes of the nodes that no other of these holds.
 -- Assumes nothing.
-use native.Mathlib.Omega.{arith}
-use borrow.Author.Rules.{rules}
-use mathlib.Core.Path.{refl}
 use Rattle.title_nodes.specs.Passes.{task}
-use Rattle.title_nodes.proofs.Nodes.{stopped_length}
-use Rattle.title_nodes.proofs.Passes.{Measuring, measuring_start, here, stack_room, items-here, first-row, stack_row, inside-row, measuring_row, measured_all, tree-size}
+use Rattle.title_nodes.proofs.Passes.{Measuring}
 use Rattle.title_nodes.proofs.measure_tree.Given as goal
 
 abbrev pub invariant-loop-i : goal.invariant-loop-i

@@ -3,7 +3,6 @@
 use Prim.Native.Nat.{ℕ}
 use Rattle.title_text.specs.Description.{shape}
 use Rattle.title_nodes.proofs.Nodes.{body-inside, own_put, node-put}
-use borrow.Author.Rules.{rules}
 use Rattle.title_nodes.proofs.put_node.Goals as goal
 
 pub put_unpackers-g-requires : goal.put_unpackers-g-requires

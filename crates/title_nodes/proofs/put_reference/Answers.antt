@@ -1,7 +1,6 @@
 -- `put_reference` puts the reference, and a URI with its length or inline data.
 -- Assumes nothing.
 use Rattle.title_nodes.proofs.Nodes.{reference-uri, reference-inline}
-use borrow.Author.Rules.{rules}
 use Rattle.title_nodes.proofs.put_reference.Goals as goal
 
 pub returns-then-reference-eq4 : goal.returns-then-reference-eq4

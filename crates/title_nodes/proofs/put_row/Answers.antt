@@ -3,7 +3,6 @@
 use Prim.Native.Nat.{ℕ}
 use native.Mathlib.Omega.{arith}
 use Rattle.title_nodes.proofs.Runs.{append_as, append_anew, leaf_is}
-use borrow.Author.Rules.{rules}
 use Rattle.title_nodes.proofs.put_row.Goals as goal
 
 pub extend-requires : goal.extend-requires

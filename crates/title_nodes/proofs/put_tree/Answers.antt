@@ -1,11 +1,7 @@
 -- `put_tree` goes from the first row to the last. The invariant: the rows before row i are appended.
 -- Assumes nothing.
 use native.Mathlib.Omega.{arith}
-use mathlib.Core.Path.{◌∙◌}
-use Prim.Native.Nat.{◌-◌}
-use Rattle.room.proofs.Counting.{going_length}
-use Rattle.title_nodes.specs.Passes.{task}
-use Rattle.title_nodes.proofs.Passes.{Putting, putting-start, rows-room, inside-here, node-here, items-room, texts-row, packed-row, leaf_row, putting-row, putting-end}
+use Rattle.title_nodes.proofs.Passes.{putting-start, rows-room, inside-here, node-here, items-room, texts-row, packed-row, leaf_row, putting-row, putting-end}
 use Rattle.title_nodes.proofs.put_tree.Goals as goal
 
 pub loop-i-init : goal.loop-i-init

@@ -1,9 +1,7 @@
 -- `sum` adds word by word. The invariant: the sum so far and the words that are left.
 -- Assumes nothing.
 use native.Mathlib.Omega.{arith}
-use borrow.Author.Rules.{rules}
-use Prim.Native.Nat.{◌-◌}
-use Rattle.title_nodes.proofs.Passes.{Adding, adding_start, adding_on, adding_end}
+use Rattle.title_nodes.proofs.Passes.{adding_start, adding_on, adding_end}
 use Rattle.title_nodes.proofs.sum.Goals as goal
 
 pub loop-k-init : goal.loop-k-init

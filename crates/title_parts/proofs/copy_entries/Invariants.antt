@@ -1,9 +1,7 @@
 -- `copy_entries` puts one after the other. The invariant: what is put and what is left are the whole.
 -- Assumes nothing.
-use Rattle.title_parts.proofs.Copying.{Copying, copying_start, copying_on, copying_no, copying_end, entry-behind, copied-was, copied-no}
+use Rattle.title_parts.proofs.Copying.{Copying}
 use Rattle.title_text.specs.Description.{entry_text}
-use native.Mathlib.Omega.{arith}
-use borrow.Author.Rules.{rules}
 use Rattle.title_parts.proofs.copy_entries.Given as goal
 
 abbrev pub invariant-loop-left : goal.invariant-loop-left

@@ -6,9 +6,7 @@ use Rattle.cursor.proofs.Leaves.{block_inside}
 use Rattle.cursor.specs.Rows.{file_frame}
 use Rattle.cursor.specs.Told.{number_told}
 use Rattle.machine.proofs.Laws.{was}
-use mathlib.Core.Path.{◌∙◌}
 use native.Mathlib.Omega.{arith}
-use borrow.Author.Rules.{rules}
 use Rattle.title_parts.proofs.copy_entry.Goals as goal
 
 pub put_part-h-requires : goal.put_part-h-requires

@@ -3,7 +3,6 @@
 use Rattle.title_parts.proofs.Copying.{number-no, number_is}
 use Rattle.cursor.specs.Told.{number_told}
 use Rattle.machine.proofs.Laws.{was}
-use borrow.Author.Rules.{rules}
 use Rattle.title_parts.proofs.copy_number.Goals as goal
 
 pub returns-in-Refused : goal.returns-in-Refused

@@ -5,7 +5,6 @@ use Rattle.cursor.specs.Rows.{unpack_frame}
 use Rattle.cursor.specs.Told.{number_told}
 use Rattle.machine.proofs.Laws.{was}
 use mathlib.Core.Path.{sym}
-use borrow.Author.Rules.{rules}
 use Rattle.title_parts.proofs.copy_unpacker.Goals as goal
 
 pub returns-in-Refused : goal.returns-in-Refused

@@ -1,9 +1,6 @@
 -- `know_bytes` reads byte after byte. The invariant: those before i are below 256.
 -- Assumes nothing.
-use Prim.Native.Nat.{◌-◌}
-use lib.ListN.{length}
-use native.Mathlib.Omega.{arith}
-use Rattle.title_parts.proofs.Standing.{Below, below_none, below_on, below_all}
+use Rattle.title_parts.proofs.Standing.{below_none, below_on, below_all}
 use Rattle.title_parts.proofs.know_bytes.Goals as goal
 
 pub loop-i-init : goal.loop-i-init

@@ -2,8 +2,7 @@
 -- Assumes nothing.
 use Prim.Native.Nat.{◌-◌}
 use lib.ListN.{length}
-use native.Mathlib.Omega.{arith}
-use Rattle.title_parts.proofs.Standing.{Below, below_none, below_on, below_all}
+use Rattle.title_parts.proofs.Standing.{Below}
 use Rattle.title_parts.proofs.know_bytes.Given as goal
 
 abbrev pub invariant-loop-i : goal.invariant-loop-i

@@ -6,7 +6,6 @@ use Rattle.cursor.specs.Told.{pass_told}
 use Rattle.machine.proofs.Laws.{was}
 use mathlib.Core.Path.{sym}
 use native.Mathlib.Omega.{arith}
-use borrow.Author.Rules.{rules}
 use Rattle.title_parts.proofs.measure_identifier.Goals as goal
 
 pub overflow_sub-after : goal.overflow_sub-after

@@ -4,7 +4,6 @@ use Rattle.title_parts.proofs.Copying.{number-no, number_is}
 use Rattle.title_text.proofs.Counted.{counts-number}
 use Rattle.cursor.specs.Told.{number_told}
 use Rattle.machine.proofs.Laws.{was}
-use borrow.Author.Rules.{rules}
 use Rattle.title_parts.proofs.measure_number.Goals as goal
 
 pub returns-in-Refused : goal.returns-in-Refused

@@ -6,7 +6,6 @@ use Rattle.title_text.proofs.Counted.{counts-number}
 use Rattle.cursor.specs.Told.{number_told}
 use Rattle.machine.proofs.Laws.{was}
 use mathlib.Core.Path.{sym}
-use borrow.Author.Rules.{rules}
 use Rattle.title_parts.proofs.measure_unpacker.Goals as goal
 
 pub returns-in-Refused : goal.returns-in-Refused

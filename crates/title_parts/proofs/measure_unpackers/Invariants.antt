@@ -1,10 +1,8 @@
 -- `measure_unpackers` counts one after the other. The invariant: what is counted and what is left are the whole.
 -- Assumes nothing.
 use mathlib.Core.List.{[]}
-use Rattle.title_parts.proofs.Copying.{Copying, copying_start, copying_on, copying_no, copying_end, unpacker-behind, copied-was, copied-no}
+use Rattle.title_parts.proofs.Copying.{Copying}
 use Rattle.title_text.specs.Description.{unpacker_text}
-use native.Mathlib.Omega.{arith}
-use borrow.Author.Rules.{rules}
 use Rattle.title_parts.proofs.measure_unpackers.Given as goal
 
 abbrev pub invariant-loop-left : goal.invariant-loop-left

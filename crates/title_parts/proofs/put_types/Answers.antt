@@ -1,7 +1,6 @@
 -- `put_types` measures the table, and puts its length and it.
 -- Assumes nothing.
 use Rattle.title_parts.proofs.Copying.{block_none, block-copied, block-never, copied-was, copied-no}
-use borrow.Author.Rules.{rules}
 use Rattle.title_parts.proofs.put_types.Goals as goal
 
 pub returns-in-Refused : goal.returns-in-Refused

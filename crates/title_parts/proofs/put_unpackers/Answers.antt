@@ -2,7 +2,6 @@
 -- Assumes nothing.
 use Rattle.title_parts.proofs.Copying.{block_same, block-measured, block-empty, block-some, copied-was, copied-no}
 use Rattle.title_text.specs.Description.{shape}
-use borrow.Author.Rules.{rules}
 use Rattle.title_parts.proofs.put_unpackers.Goals as goal
 
 pub returns-then-p-eq0 : goal.returns-then-p-eq0

@@ -3,7 +3,6 @@
 use Rattle.title_parts.proofs.Copying.{copied-was, copied-no, copied-answer}
 use Rattle.title_parts.proofs.Standing.{unpackers-cover, covers-rise, packed_none, packed-other, packed-same}
 use native.Mathlib.Omega.{arith}
-use borrow.Author.Rules.{rules}
 use Rattle.title_parts.proofs.unpackers_of.Goals as goal
 
 pub overflow_sub-end : goal.overflow_sub-end

@@ -2,7 +2,6 @@
 -- Assumes nothing.
 use Rattle.lines.proofs.Ending.{gives_as}
 use Rattle.titles.proofs.Retitling.{corrected-as}
-use borrow.Author.Rules.{rules}
 use Rattle.titles.proofs.make_corrected.Goals as goal
 
 pub returns : goal.returns

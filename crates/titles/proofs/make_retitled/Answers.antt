@@ -2,7 +2,6 @@
 -- Assumes nothing.
 use Rattle.lines.proofs.Ending.{gives_as}
 use Rattle.titles.proofs.Retitling.{plain-is, units-bad, units-counted, units-good}
-use borrow.Author.Rules.{rules}
 use Rattle.titles.proofs.make_retitled.Goals as goal
 
 pub returns-then-title_format-ne2 : goal.returns-then-title_format-ne2

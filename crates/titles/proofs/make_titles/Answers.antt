@@ -4,7 +4,6 @@ use Rattle.file.proofs.Rows.{standing}
 use Rattle.file.proofs.Own.{item-rows}
 use Rattle.lines.proofs.Ending.{gives_as}
 use Rattle.titles.proofs.Retitling.{titles-bad, titles-none, titles-good}
-use borrow.Author.Rules.{rules}
 use Rattle.titles.proofs.make_titles.Goals as goal
 
 pub refers_elsewhere-requires : goal.refers_elsewhere-requires

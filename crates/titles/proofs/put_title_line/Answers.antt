@@ -3,7 +3,6 @@
 use native.Mathlib.Omega.{arith}
 use Rattle.room.proofs.Counting.{counts-none, counts-then, counts-as}
 use Rattle.titles.proofs.Retitling.{line-none, line-is}
-use borrow.Author.Rules.{rules}
 use Rattle.titles.proofs.put_title_line.Goals as goal
 
 pub returns-then-is_no_title : goal.returns-then-is_no_title

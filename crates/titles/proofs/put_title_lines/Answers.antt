@@ -1,11 +1,8 @@
 -- `put_title_lines` puts the lines of all contents that can be corrected. The invariant: of the whole, the lines from row i on are still to be put.
 -- Assumes nothing.
-use Prim.Native.Nat.{◌-◌, ◌≤◌}
 use mathlib.Core.Path.{sym}
 use native.Mathlib.Omega.{arith}
-use Rattle.room.proofs.Counting.{Going, going_start, going_on, going_end, going_length}
-use Rattle.rows.specs.Rows.{items_from, items_in}
-use Rattle.titles.specs.Titles.{title_lines}
+use Rattle.room.proofs.Counting.{going_start, going_on, going_end}
 use Rattle.lines.proofs.Reading.{lines-on, lines_end}
 use Rattle.titles.proofs.Retitling.{titles-lined, titles-start}
 use Rattle.titles.proofs.put_title_lines.Goals as goal

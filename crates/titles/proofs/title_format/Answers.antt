@@ -3,7 +3,6 @@
 use native.Mathlib.Omega.{arith}
 use Rattle.file.proofs.Rows.{standing}
 use Rattle.titles.proofs.Retitling.{format-refused, format-past, format-none, format-is}
-use borrow.Author.Rules.{rules}
 use Rattle.titles.proofs.title_format.Goals as goal
 
 pub returns-then-s-row : goal.returns-then-s-row

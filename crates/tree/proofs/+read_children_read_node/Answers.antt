@@ -2,19 +2,12 @@
 -- a level less than its holder and no more bytes, and a later child has fewer bytes. It is the measure of the calls (twice, and one more for children,
 -- whose first child has the same left) and of the loop over the children. The loop's invariant: what is left comes to what the whole comes to.
 -- Assumes nothing.
-use mathlib.Core.Path.{◌∙◌}
 use mathlib.Core.List.{[]}
-use lib.ListN.{length}
-use Rattle.cursor.specs.declared.Cursor.{Cursor}
-use Rattle.metadata.specs.Told.{context_of}
 use Rattle.metadata.proofs.Gives.{done, stopped, fitting, no}
-use Rattle.node.specs.declared.Bounds.{Bounds}
 use Rattle.node.proofs.Ends.{front-inside, inline_fits}
 use Rattle.node.proofs.Ways.{front-done, front-stopped, front-fitting}
-use Rattle.tree.proofs.Nodes.{node-none, node-limit, node-front, node-children, node-contained, node-file, Going, children-begun, children-further, children-done, children-no, children-on}
+use Rattle.tree.proofs.Nodes.{node-none, node-limit, node-front, node-children, node-contained, node-file, children-begun, children-further, children-done, children-no, children-on}
 use native.Mathlib.Omega.{arith}
-use borrow.Author.Rules.{rules}
-use Prim.Native.Nat.{ℕ, ◌+◌, ◌*◌, ◌-◌, ◌<◌}
 use Rattle.tree.proofs.+read_children_read_node.Goals as goal
 
 pub read_children-loop-rest-init : goal.read_children-loop-rest-init

@@ -3,7 +3,7 @@
 -- whose first child has the same left) and of the loop over the children. The loop's invariant: what is left comes to what the whole comes to.
 -- Assumes nothing.
 use lib.ListN.{length}
-use Prim.Native.Nat.{ℕ, ◌+◌, ◌*◌, ◌-◌, ◌<◌}
+use Prim.Native.Nat.{ℕ, ◌+◌, ◌*◌, ◌-◌}
 use Rattle.cursor.specs.declared.Cursor.{Cursor}
 use Rattle.metadata.specs.Told.{context_of}
 use Rattle.node.specs.declared.Bounds.{Bounds}

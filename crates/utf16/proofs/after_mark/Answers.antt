@@ -4,7 +4,6 @@ use mathlib.Core.Path.{sym, ap, ◌∙◌}
 use Rattle.utf16.specs.Told.{char_told}
 use Rattle.utf16.proofs.Converting.{mark-bad, mark-kept, mark-dropped, mark-in}
 use native.Mathlib.Omega.{arith}
-use borrow.Author.Rules.{rules}
 use Rattle.utf16.proofs.after_mark.Goals as goal
 
 pub returns-then-value-eq65279 : goal.returns-then-value-eq65279

@@ -1,7 +1,6 @@
 -- `char16` gives what `first16` gives of the bytes from a place on.
 -- Assumes nothing.
 use Rattle.utf16.proofs.Ways.{none_left, low-unit, high-unit, lone_unit, lone_end, early_unit, late_unit, both-units}
-use borrow.Author.Rules.{rules}
 use Rattle.utf16.proofs.char16.Goals as goal
 
 pub returns-then-left-lt2 : goal.returns-then-left-lt2

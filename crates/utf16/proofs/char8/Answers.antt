@@ -2,7 +2,6 @@
 -- Assumes nothing.
 use mathlib.Core.Path.{◌∙◌}
 use Rattle.utf16.proofs.Tails.{no_byte, one_byte, tail-byte, two_bytes, three_bytes, four_bytes, wrong_byte}
-use borrow.Author.Rules.{rules}
 use Rattle.utf16.proofs.char8.Goals as goal
 
 pub returns-then-text-at : goal.returns-then-text-at

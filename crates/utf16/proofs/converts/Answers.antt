@@ -2,12 +2,9 @@
 -- Assumes nothing.
 use mathlib.Core.Path.{sym, ap, ◌∙◌}
 use Rattle.utf16.specs.Told.{char_told}
-use Prim.Native.Nat.{◌-◌}
-use lib.ListN.{length}
 use Rattle.utf16.proofs.Sixteen.{form16}
-use Rattle.utf16.proofs.Converting.{Checking, check-start, check-on, check-bad, check-end, char-in}
+use Rattle.utf16.proofs.Converting.{check-start, check-on, check-bad, check-end, char-in}
 use native.Mathlib.Omega.{arith}
-use borrow.Author.Rules.{rules}
 use Rattle.utf16.proofs.converts.Goals as goal
 
 pub loop-at-init : goal.loop-at-init

@@ -2,7 +2,6 @@
 -- Assumes nothing.
 use Rattle.room.proofs.Counting.{counts-then, counts-as}
 use Rattle.utf16.proofs.Sixteen.{short-bytes, long-bytes}
-use borrow.Author.Rules.{rules}
 use Rattle.utf16.proofs.put16.Goals as goal
 
 pub returns-then-c-lt65536 : goal.returns-then-c-lt65536

@@ -3,7 +3,6 @@
 use mathlib.Core.Path.{sym, ◌∙◌}
 use Rattle.room.proofs.Counting.{counts-then, counts-as}
 use Rattle.utf16.proofs.Eight.{one8, two8, three8, four8, one-tail, two-tails, three_tails}
-use borrow.Author.Rules.{rules}
 use Rattle.utf16.proofs.put8.Goals as goal
 
 pub returns-then-c-lt128 : goal.returns-then-c-lt128

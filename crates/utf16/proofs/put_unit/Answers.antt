@@ -2,7 +2,6 @@
 -- Assumes nothing.
 use Rattle.room.proofs.Counting.{counts-then, counts-as}
 use Rattle.utf16.proofs.Sixteen.{unit-is}
-use borrow.Author.Rules.{rules}
 use Rattle.utf16.proofs.put_unit.Goals as goal
 
 pub returns : goal.returns

@@ -1,9 +1,6 @@
 -- `read_tails` gives what `tails` gives. The invariant: what is left of the definition is the whole, and the value is small.
 -- Assumes nothing.
-use mathlib.Core.Logic.{inl, inr}
-use Rattle.utf16.proofs.Tails.{Tailing, tails-start, tails-none, tails-low, tails-high, tails-next, tails-under, tails-one, tails-lone, tails-over}
-use native.Mathlib.Omega.{arith}
-use borrow.Author.Rules.{rules}
+use Rattle.utf16.proofs.Tails.{Tailing}
 use Rattle.utf16.proofs.read_tails.Given as goal
 
 abbrev pub invariant-loop-left : goal.invariant-loop-left

@@ -2,13 +2,9 @@
 -- Assumes nothing.
 use mathlib.Core.Path.{sym, ap, ◌∙◌}
 use Rattle.utf16.specs.Told.{char_told}
-use Prim.Native.Nat.{◌-◌}
-use lib.ListN.{length}
-use Rattle.utf16.specs.Unicode.{bytes16, first8, to_utf16}
 use Rattle.utf16.proofs.Eight.{form8}
-use Rattle.utf16.proofs.Converting.{Converting, conv_start, conv_on, conv_bad, conv_full, conv_good, conv_length, char-in, refused, fit-bad, utf16-start}
+use Rattle.utf16.proofs.Converting.{conv_start, conv_on, conv_bad, conv_full, conv_good, conv_length, char-in, refused, fit-bad, utf16-start}
 use native.Mathlib.Omega.{arith}
-use borrow.Author.Rules.{rules}
 use Rattle.utf16.proofs.to_utf16.Goals as goal
 
 pub loop-at-init : goal.loop-at-init

@@ -2,13 +2,9 @@
 -- Assumes nothing.
 use mathlib.Core.Path.{sym, ap, ◌∙◌}
 use Rattle.utf16.specs.Told.{char_told}
-use Prim.Native.Nat.{◌-◌}
-use lib.ListN.{length}
-use Rattle.utf16.specs.Unicode.{utf8, first16, to_utf8}
 use Rattle.utf16.proofs.Sixteen.{form16}
-use Rattle.utf16.proofs.Converting.{Converting, conv_start, conv_on, conv_bad, conv_full, conv_good, conv_length, char-in, refused, fit-bad}
+use Rattle.utf16.proofs.Converting.{conv_start, conv_on, conv_bad, conv_full, conv_good, conv_length, char-in, refused, fit-bad}
 use native.Mathlib.Omega.{arith}
-use borrow.Author.Rules.{rules}
 use Rattle.utf16.proofs.to_utf8.Goals as goal
 
 pub loop-at-init : goal.loop-at-init

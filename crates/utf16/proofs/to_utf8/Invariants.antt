@@ -1,14 +1,9 @@
 -- `to_utf8` answers and leaves in its buffer what `to_utf8` says.
 -- Assumes nothing.
-use mathlib.Core.Path.{sym, ap, ◌∙◌}
-use Rattle.utf16.specs.Told.{char_told}
 use Prim.Native.Nat.{◌-◌}
 use lib.ListN.{length}
 use Rattle.utf16.specs.Unicode.{utf8, first16, to_utf8}
-use Rattle.utf16.proofs.Sixteen.{form16}
-use Rattle.utf16.proofs.Converting.{Converting, conv_start, conv_on, conv_bad, conv_full, conv_good, conv_length, char-in, refused, fit-bad}
-use native.Mathlib.Omega.{arith}
-use borrow.Author.Rules.{rules}
+use Rattle.utf16.proofs.Converting.{Converting}
 use Rattle.utf16.proofs.to_utf8.Given as goal
 
 abbrev pub invariant-loop-at : goal.invariant-loop-at

@@ -1,7 +1,7 @@
 -- `power` multiplies k times.
 -- Assumes nothing.
 use mathlib.Core.Path.{◌≡◌, refl}
-use Prim.Native.Nat.{◌^◌, ◌≤◌, ◌+◌, ◌-◌}
+use Prim.Native.Nat.{◌+◌}
 use native.Mathlib.Omega.{arith}
 use Rattle.vlq.proofs.Numbers.{power_on, power_most}
 use Rattle.vlq.proofs.power.Goals as goal

@@ -1,9 +1,7 @@
 -- `power` multiplies k times.
 -- Assumes nothing.
-use mathlib.Core.Path.{◌≡◌, refl}
-use Prim.Native.Nat.{◌^◌, ◌≤◌, ◌+◌, ◌-◌}
-use native.Mathlib.Omega.{arith}
-use Rattle.vlq.proofs.Numbers.{power_on, power_most}
+use mathlib.Core.Path.{◌≡◌}
+use Prim.Native.Nat.{◌^◌, ◌≤◌, ◌-◌}
 use Rattle.vlq.proofs.power.Given as goal
 
 abbrev pub invariant-loop-i : goal.invariant-loop-i

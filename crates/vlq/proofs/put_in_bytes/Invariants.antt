@@ -1,12 +1,8 @@
 -- `put_in_bytes` puts n byte by byte. The invariant: of its bytes the last `left` are still to be put.
 -- Assumes nothing.
-use mathlib.Core.Path.{refl, ap}
-use Prim.Native.Nat.{ℕ, ◌-◌, ◌≤◌, ◌/◌, ◌%◌, ◌+◌}
-use native.Mathlib.Omega.{arith}
-use borrow.Author.Rules.{rules}
+use Prim.Native.Nat.{◌≤◌}
 use Rattle.vlq.specs.Vlq.{in_bytes}
-use Rattle.room.proofs.Counting.{Going, going_start, going_on, going_end, going_length}
-use Rattle.vlq.proofs.Numbers.{digit_more, digit_last, power_some, none_left}
+use Rattle.room.proofs.Counting.{Going}
 use Rattle.vlq.proofs.put_in_bytes.Given as goal
 
 abbrev pub invariant-loop-left : goal.invariant-loop-left

@@ -4,7 +4,6 @@ use native.Mathlib.Omega.{arith}
 use Rattle.room.proofs.Counting.{counts-as}
 use Rattle.vlq.proofs.Numbers.{short-number, number_put}
 use Rattle.vlq.proofs.Least.{least-in}
-use borrow.Author.Rules.{rules}
 use Rattle.vlq.proofs.put_number.Goals as goal
 
 pub returns-then-n-lt128 : goal.returns-then-n-lt128

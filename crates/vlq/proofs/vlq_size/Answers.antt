@@ -1,7 +1,6 @@
 -- `vlq_size` gives the least count for a number that does not depend on it.
 -- Assumes nothing.
 use mathlib.Core.Path.{refl}
-use borrow.Author.Rules.{rules}
 use Rattle.vlq.proofs.vlq_size.Goals as goal
 
 pub returns : goal.returns

@@ -1,7 +1,6 @@
 -- `put_answer` fills the buffer as `fit` says.
 -- Assumes nothing.
 use Rattle.words.proofs.Putting.{fits}
-use borrow.Author.Rules.{rules}
 use Rattle.words.proofs.put_answer.Goals as goal
 
 pub returns : goal.returns

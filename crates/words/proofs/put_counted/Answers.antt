@@ -3,7 +3,6 @@
 use Rattle.description.specs.Told.{told}
 use Rattle.promises.specs.Promises.{one_value}
 use Rattle.words.proofs.Putting.{put_as}
-use borrow.Author.Rules.{rules}
 use Rattle.words.proofs.put_counted.Goals as goal
 
 pub returns-in-Refused : goal.returns-in-Refused

@@ -3,7 +3,6 @@
 use Rattle.find.specs.Told.{told}
 use Rattle.promises.specs.Promises.{item_values}
 use Rattle.words.proofs.Putting.{put_as}
-use borrow.Author.Rules.{rules}
 use Rattle.words.proofs.put_found.Goals as goal
 
 pub returns-in-Refused : goal.returns-in-Refused

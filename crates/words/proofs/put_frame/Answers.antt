@@ -3,7 +3,6 @@
 use Rattle.id3.specs.Told.{frame_told}
 use Rattle.promises.specs.Promises.{frame_values}
 use Rattle.words.proofs.Putting.{put_as}
-use borrow.Author.Rules.{rules}
 use Rattle.words.proofs.put_frame.Goals as goal
 
 pub returns-in-Refused : goal.returns-in-Refused

@@ -3,7 +3,6 @@
 use Rattle.id3.specs.Told.{count_told}
 use Rattle.promises.specs.Promises.{one_value}
 use Rattle.words.proofs.Putting.{put_as}
-use borrow.Author.Rules.{rules}
 use Rattle.words.proofs.put_frame_count.Goals as goal
 
 pub returns-in-Refused : goal.returns-in-Refused

@@ -1,7 +1,6 @@
 -- `put_front` stores as `stored` says.
 -- Assumes nothing.
 use Rattle.words.proofs.Putting.{all-stored, part-stored}
-use borrow.Author.Rules.{rules}
 use Rattle.words.proofs.put_front.Goals as goal
 
 pub returns-then-words-room : goal.returns-then-words-room

@@ -2,7 +2,6 @@
 -- Assumes nothing.
 use Rattle.mend.specs.Told.{told, size_words}
 use Rattle.words.proofs.Putting.{put_as}
-use borrow.Author.Rules.{rules}
 use Rattle.words.proofs.put_mended.Goals as goal
 
 pub returns-in-Refused : goal.returns-in-Refused

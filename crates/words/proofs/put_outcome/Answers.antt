@@ -3,7 +3,6 @@
 use Rattle.shelf.specs.Told.{told_outcome}
 use Rattle.promises.specs.Shelf.{no_value}
 use Rattle.words.proofs.Putting.{put_as}
-use borrow.Author.Rules.{rules}
 use Rattle.words.proofs.put_outcome.Goals as goal
 
 pub returns-in-Refused : goal.returns-in-Refused

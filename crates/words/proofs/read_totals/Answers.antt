@@ -1,7 +1,6 @@
 -- Each number is what its call gave.
 -- Assumes nothing.
 use mathlib.Core.Path.{refl}
-use borrow.Author.Rules.{rules}
 use Rattle.words.proofs.read_totals.Goals as goal
 
 pub returns : goal.returns

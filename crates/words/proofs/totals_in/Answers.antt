@@ -2,7 +2,6 @@
 -- Assumes nothing.
 use mathlib.Core.Path.{sym, ap}
 use Rattle.account.specs.Told.{totals_in}
-use borrow.Author.Rules.{rules}
 use Rattle.words.proofs.totals_in.Goals as goal
 
 pub returns-in-Refused : goal.returns-in-Refused

@@ -3,7 +3,6 @@
 use mathlib.Core.Path.{◌∙◌}
 use native.Mathlib.Omega.{arith}
 use Rattle.xmf_sheet.proofs.Fits.{put_first, line-short, long-short, sheet_made, refusal-made, answer-long, answer-short}
-use borrow.Author.Rules.{rules}
 use Rattle.xmf_sheet.proofs.make_answer.Goals as goal
 
 pub returns-then-file-gt-LONGEST : goal.returns-then-file-gt-LONGEST

@@ -2,7 +2,6 @@
 -- Assumes nothing.
 use Rattle.room.proofs.Counting.{counts-then, counts-as}
 use Rattle.xmf_sheet.proofs.Fits.{refusal_is}
-use borrow.Author.Rules.{rules}
 use Rattle.xmf_sheet.proofs.put_refusal.Goals as goal
 
 pub returns : goal.returns

@@ -2,7 +2,6 @@
 -- Assumes nothing.
 use Rattle.room.proofs.Counting.{counts-as}
 use Rattle.xmf_sheet.proofs.Fits.{long-is}
-use borrow.Author.Rules.{rules}
 use Rattle.xmf_sheet.proofs.put_too_long.Goals as goal
 
 pub returns : goal.returns

@@ -1,7 +1,6 @@
 -- `contents_at` gives what `contents_at` gives.
 -- Assumes nothing.
 use Rattle.account.proofs.Ways.{contents-one, contents-other}
-use borrow.Author.Rules.{rules}
 use Rattle.account.proofs.marks.contents_at.Goals as goal
 
 pub returns-then-row-eq1 : goal.returns-then-row-eq1

@@ -1,10 +1,7 @@
 -- `fill` marks a span. The invariant: the places from `from` up to `at` are marked, the others as they were.
 -- Assumes nothing.
-use Prim.Native.Nat.{◌-◌, ◌≤◌, max}
-use lib.ListN.{length}
 use native.Mathlib.Omega.{arith}
-use Rattle.account.proofs.Marking.{Filling, filling_none, filling_more, filling_all}
-use borrow.Author.Rules.{rules}
+use Rattle.account.proofs.Marking.{filling_none, filling_more, filling_all}
 use Rattle.account.proofs.marks.fill.Goals as goal
 
 pub loop-at-init : goal.loop-at-init

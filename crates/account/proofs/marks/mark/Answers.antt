@@ -3,7 +3,6 @@
 use native.Mathlib.Omega.{arith}
 use Rattle.account.proofs.Exits.{nodes-stand, items-stand}
 use Rattle.account.proofs.Marking.{ends_unread, ends_few, ends_marked, zeros}
-use borrow.Author.Rules.{rules}
 use Rattle.account.proofs.marks.mark.Goals as goal
 
 pub returns-then-marks-size : goal.returns-then-marks-size

@@ -2,7 +2,6 @@
 -- Assumes nothing.
 use native.Mathlib.Omega.{arith}
 use Rattle.account.proofs.Marking.{past, hidden_span, visible-span}
-use borrow.Author.Rules.{rules}
 use Rattle.account.proofs.marks.mark_item.Goals as goal
 
 pub returns-then-row-eq1 : goal.returns-then-row-eq1

@@ -1,11 +1,9 @@
 -- `mark_items` marks row after row. The invariant: what is left to do is what the rows from row i on give.
 -- Assumes nothing.
 use Prim.Native.Nat.{◌-◌, ◌≤◌}
-use native.Mathlib.Omega.{arith}
 use Rattle.rows.specs.Rows.{item_width, item_from}
 use Rattle.account.specs.ByPlace.{over_item}
-use Rattle.account.proofs.Marking.{Painting, painting_begun, painting_on, items-painted}
-use borrow.Author.Rules.{rules}
+use Rattle.account.proofs.Marking.{Painting}
 use Rattle.account.proofs.marks.mark_items.Given as goal
 
 abbrev pub invariant-loop-i : goal.invariant-loop-i

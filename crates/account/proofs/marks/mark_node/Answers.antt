@@ -3,7 +3,6 @@
 use native.Mathlib.Omega.{arith}
 use Rattle.account.proofs.Ways.{spans}
 use Rattle.account.proofs.Marking.{past, node-spans}
-use borrow.Author.Rules.{rules}
 use Rattle.account.proofs.marks.mark_node.Goals as goal
 
 pub overflow_add-unpackers : goal.overflow_add-unpackers

@@ -1,12 +1,9 @@
 -- `mark_nodes` marks row after row. The invariant: what is left to do is what the rows from row i on give.
 -- Assumes nothing.
 use mathlib.Core.Path.{sym, subst}
-use Prim.Native.Nat.{◌-◌, ◌≤◌}
 use native.Mathlib.Omega.{arith}
-use Rattle.rows.specs.Rows.{node_width, node_from}
 use Rattle.account.specs.ByRows.{Inside}
-use Rattle.account.specs.ByPlace.{over_node}
-use Rattle.account.proofs.Marking.{Painting, painting_begun, painting_on, nodes-painted}
+use Rattle.account.proofs.Marking.{painting_begun, painting_on, nodes-painted}
 use Rattle.account.proofs.marks.mark_nodes.Goals as goal
 
 pub loop-i-init : goal.loop-i-init

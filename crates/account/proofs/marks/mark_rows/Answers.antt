@@ -1,7 +1,6 @@
 -- `mark_rows` marks all places, part after part.
 -- Assumes nothing.
 use Rattle.account.proofs.Marking.{all-painted}
-use borrow.Author.Rules.{rules}
 use Rattle.account.proofs.marks.mark_rows.Goals as goal
 
 pub returns : goal.returns

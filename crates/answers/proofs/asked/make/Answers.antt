@@ -3,7 +3,6 @@
 use Rattle.answers.specs.Questions.{answer_to}
 use Rattle.lines.proofs.Ending.{gives_as, answered}
 use Rattle.answers.proofs.Questioned.{long-is, short-is}
-use borrow.Author.Rules.{rules}
 use Rattle.answers.proofs.asked.make.Goals as goal
 
 pub returns-then-file-gt-LONGEST : goal.returns-then-file-gt-LONGEST

@@ -1,7 +1,6 @@
 -- `card_in` meets its contract.
 -- Assumes nothing.
 use native.Mathlib.Omega.{arith}
-use borrow.Author.Rules.{rules}
 use Rattle.shelf.specs.Words.{cards_of}
 use Rattle.shelf.proofs.Words.{count, card_at}
 use Rattle.cases.proofs.Row.{past}

@@ -1,6 +1,5 @@
 -- `drop` meets its contract: the cards that are lent are those of the words.
 -- Assumes nothing.
-use borrow.Author.Rules.{rules}
 use Rattle.cases.proofs.Row.{front, changed}
 use Rattle.cases.proofs.cards.drop.Goals as goal
 

@@ -1,6 +1,5 @@
 -- `get` meets its contract: the cards that are lent are those of the words.
 -- Assumes nothing.
-use borrow.Author.Rules.{rules}
 use Rattle.cases.proofs.Row.{front, given}
 use Rattle.cases.proofs.cards.get.Goals as goal
 

@@ -1,12 +1,10 @@
 -- `load_row` reads the cards one by one.
 -- Assumes nothing.
-use mathlib.Core.Path.{◌≡◌, refl, ◌∙◌}
-use Prim.Native.Nat.{◌-◌, ◌≤◌}
+use mathlib.Core.Path.{refl, ◌∙◌}
 use native.Mathlib.Omega.{arith}
-use lib.ListN.{length, length-set}
-use borrow.Author.Rules.{rules}
+use lib.ListN.{length-set}
 use Rattle.shelf.specs.declared.Card.{Card}
-use Rattle.cases.proofs.Row.{Loaded, loaded_more}
+use Rattle.cases.proofs.Row.{loaded_more}
 use Rattle.cases.proofs.cards.load_row.Goals as goal
 
 pub loop-i-init : goal.loop-i-init

@@ -1,12 +1,9 @@
 -- `load_row` reads the cards one by one.
 -- Assumes nothing.
-use mathlib.Core.Path.{◌≡◌, refl, ◌∙◌}
+use mathlib.Core.Path.{◌≡◌}
 use Prim.Native.Nat.{◌-◌, ◌≤◌}
-use native.Mathlib.Omega.{arith}
-use lib.ListN.{length, length-set}
-use borrow.Author.Rules.{rules}
-use Rattle.shelf.specs.declared.Card.{Card}
-use Rattle.cases.proofs.Row.{Loaded, loaded_more}
+use lib.ListN.{length}
+use Rattle.cases.proofs.Row.{Loaded}
 use Rattle.cases.proofs.cards.load_row.Given as goal
 
 abbrev pub invariant-loop-i : goal.invariant-loop-i

@@ -1,11 +1,10 @@
 -- `store_row` stores the cards one by one.
 -- Assumes nothing.
 use mathlib.Core.Path.{◌≡◌, refl, ◌∙◌, ap}
-use Prim.Native.Nat.{ℕ, ◌-◌, ◌*◌, ◌/◌, ◌≤◌, min}
+use Prim.Native.Nat.{ℕ, ◌*◌, ◌/◌, min}
 use native.Mathlib.Omega.{arith}
 use lib.ListN.{length, get_or, take}
 use lib.Seq.{length-sets}
-use borrow.Author.Rules.{rules}
 use Rattle.shelf.specs.Shelf.{fresh_card}
 use Rattle.shelf.specs.Words.{words_with}
 use Rattle.shelf.proofs.Words.{four_of}

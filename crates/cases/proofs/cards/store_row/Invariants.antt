@@ -1,15 +1,9 @@
 -- `store_row` stores the cards one by one.
 -- Assumes nothing.
-use mathlib.Core.Path.{◌≡◌, refl, ◌∙◌, ap}
-use Prim.Native.Nat.{ℕ, ◌-◌, ◌*◌, ◌/◌, ◌≤◌, min}
-use native.Mathlib.Omega.{arith}
-use lib.ListN.{length, get_or, take}
-use lib.Seq.{length-sets}
-use borrow.Author.Rules.{rules}
-use Rattle.shelf.specs.Shelf.{fresh_card}
+use mathlib.Core.Path.{◌≡◌}
+use Prim.Native.Nat.{◌-◌, ◌/◌, ◌≤◌, min}
+use lib.ListN.{length, take}
 use Rattle.shelf.specs.Words.{words_with}
-use Rattle.shelf.proofs.Words.{four_of}
-use Rattle.cases.proofs.Row.{with_none, stored_more}
 use Rattle.cases.proofs.cards.store_row.Given as goal
 
 abbrev pub invariant-loop-i : goal.invariant-loop-i

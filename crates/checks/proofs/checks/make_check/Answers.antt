@@ -3,7 +3,6 @@
 use Rattle.file.proofs.Rows.{standing}
 use Rattle.lines.proofs.Ending.{gives_as}
 use Rattle.checks.proofs.Judging.{check-bad, check-good}
-use borrow.Author.Rules.{rules}
 use Rattle.checks.proofs.checks.make_check.Goals as goal
 
 pub returns-in-Refused : goal.returns-in-Refused

@@ -2,7 +2,6 @@
 -- Assumes nothing.
 use Rattle.room.proofs.Counting.{counts-then, counts-as}
 use Rattle.checks.proofs.Judging.{ok-is}
-use borrow.Author.Rules.{rules}
 use Rattle.checks.proofs.checks.put_ok.Goals as goal
 
 pub returns : goal.returns

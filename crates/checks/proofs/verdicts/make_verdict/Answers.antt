@@ -2,7 +2,6 @@
 -- Assumes nothing.
 use Rattle.lines.proofs.Ending.{gives_as}
 use Rattle.checks.proofs.Judging.{verdict-bad, verdict-good}
-use borrow.Author.Rules.{rules}
 use Rattle.checks.proofs.verdicts.make_verdict.Goals as goal
 
 pub returns-in-Refused : goal.returns-in-Refused

@@ -2,7 +2,6 @@
 -- Assumes nothing.
 use Rattle.room.proofs.Counting.{counts-then, counts-as}
 use Rattle.checks.proofs.Judging.{verdict-is}
-use borrow.Author.Rules.{rules}
 use Rattle.checks.proofs.verdicts.put_verdict.Goals as goal
 
 pub returns : goal.returns

@@ -3,7 +3,6 @@ use Rattle.machine.proofs.Laws.{was}
 use Rattle.cursor.specs.Told.{number_told}
 use Rattle.cursor.specs.Rows.{file_frame}
 use native.Mathlib.Omega.{arith}
-use borrow.Author.Rules.{rules}
 use Rattle.cursor.proofs.Cursor.block.Goals as goal
 
 pub overflow_sub-end : goal.overflow_sub-end

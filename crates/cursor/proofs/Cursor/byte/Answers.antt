@@ -1,7 +1,5 @@
 -- `Cursor::byte` gives the byte, and the cursor after it.
 -- Assumes nothing.
-use native.Mathlib.Omega.{arith}
-use borrow.Author.Rules.{rules}
 use Rattle.cursor.proofs.Cursor.byte.Goals as goal
 
 pub returns : goal.returns

@@ -1,6 +1,4 @@
-use Rattle.cursor.proofs.Digits.{GuidReading, guid-begun, out, missing, last, more}
-use borrow.Author.Rules.{rules}
-use Prim.Native.Nat.{◌≤◌}
+use Rattle.cursor.proofs.Digits.{guid-begun, out, missing, last, more}
 use native.Mathlib.Omega.{arith}
 use Rattle.cursor.proofs.Cursor.guid.Goals as goal
 

@@ -1,7 +1,5 @@
-use Rattle.cursor.proofs.Digits.{GuidReading, guid-begun, out, missing, last, more}
-use borrow.Author.Rules.{rules}
+use Rattle.cursor.proofs.Digits.{GuidReading}
 use Prim.Native.Nat.{◌≤◌}
-use native.Mathlib.Omega.{arith}
 use Rattle.cursor.proofs.Cursor.guid.Given as goal
 
 abbrev pub invariant-loop-left : goal.invariant-loop-left

@@ -1,6 +1,5 @@
 use Rattle.cursor.proofs.Leaves.{manufacturer-none, manufacturer-one, manufacturer-cut, manufacturer-three}
 use native.Mathlib.Omega.{arith}
-use borrow.Author.Rules.{rules}
 use Rattle.cursor.proofs.Cursor.manufacturer.Goals as goal
 
 pub returns-then-end-at : goal.returns-then-end-at

@@ -1,11 +1,8 @@
 -- `Cursor::number` gives what `number` gives. The invariant: what is left of the definition is the whole, and the value is below 128 to the bytes read.
 -- Assumes nothing.
 use mathlib.Core.Path.{sym}
-use Prim.Native.Nat.{◌≤◌, ◌<◌, ◌-◌, ◌^◌}
 use native.Mathlib.Omega.{arith}
-use borrow.Author.Rules.{rules}
-use Rattle.cursor.specs.Leaves.{number}
-use Rattle.cursor.proofs.Digits.{Reading, begun, out, missing, last, more, grown, below}
+use Rattle.cursor.proofs.Digits.{begun, out, missing, last, more, grown, below}
 use Rattle.cursor.proofs.Leaves.{number_short}
 use Rattle.cursor.proofs.Cursor.number.Goals as goal
 

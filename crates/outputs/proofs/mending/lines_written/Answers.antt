@@ -1,7 +1,6 @@
 -- `lines_written` gives the bytes of the lines, or the refusal.
 -- Assumes nothing.
 use Rattle.outputs.proofs.Mended.{said-good, said-bad}
-use borrow.Author.Rules.{rules}
 use Rattle.outputs.proofs.mending.lines_written.Goals as goal
 
 pub returns-in-Refused : goal.returns-in-Refused

@@ -1,7 +1,6 @@
 -- `make_mend_lines` answers the lines of what is mended, or the refusal.
 -- Assumes nothing.
 use Rattle.outputs.proofs.Mended.{lines-settle}
-use borrow.Author.Rules.{rules}
 use Rattle.outputs.proofs.mending.make_mend_lines.Goals as goal
 
 pub returns : goal.returns

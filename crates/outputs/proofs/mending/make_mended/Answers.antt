@@ -1,7 +1,6 @@
 -- `make_mended` answers the copy whose header is mended, or the refusal.
 -- Assumes nothing.
 use Rattle.outputs.proofs.Mended.{copy-settles}
-use borrow.Author.Rules.{rules}
 use Rattle.outputs.proofs.mending.make_mended.Goals as goal
 
 pub returns : goal.returns

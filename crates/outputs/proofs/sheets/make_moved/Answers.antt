@@ -1,7 +1,6 @@
 -- `make_moved` answers the sheet in its other edition, or the refusal.
 -- Assumes nothing.
 use Rattle.outputs.specs.Printed.{moved_answer}
-use borrow.Author.Rules.{rules}
 use Rattle.outputs.proofs.sheets.make_moved.Goals as goal
 
 pub returns : goal.returns

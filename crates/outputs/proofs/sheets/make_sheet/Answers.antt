@@ -2,7 +2,6 @@
 -- Assumes nothing.
 use Rattle.lines.proofs.Ending.{gives_as}
 use Rattle.outputs.proofs.Written.{sheet_as}
-use borrow.Author.Rules.{rules}
 use Rattle.outputs.proofs.sheets.make_sheet.Goals as goal
 
 pub returns : goal.returns

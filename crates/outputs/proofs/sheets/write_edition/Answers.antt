@@ -1,6 +1,5 @@
 -- `write_edition` writes the sheet in the edition that is asked for.
 -- Assumes nothing.
-use borrow.Author.Rules.{rules}
 use Rattle.outputs.proofs.sheets.write_edition.Goals as goal
 
 pub returns-then-second : goal.returns-then-second

@@ -1,7 +1,6 @@
 -- `make_utf16` answers the converted bytes, or the refusal.
 -- Assumes nothing.
 use Rattle.outputs.specs.Printed.{utf16_answer}
-use borrow.Author.Rules.{rules}
 use Rattle.outputs.proofs.texts.make_utf16.Goals as goal
 
 pub returns : goal.returns

@@ -4,7 +4,6 @@ use Rattle.room.proofs.Counting.{counts-then}
 use Rattle.file.proofs.Rows.{standing}
 use Rattle.lines.proofs.Ending.{gives_as}
 use Rattle.tables.proofs.Listed.{rows-bad, rows-good}
-use borrow.Author.Rules.{rules}
 use Rattle.tables.proofs.all_rows.make_rows.Goals as goal
 
 pub put_node_rows-a-requires : goal.put_node_rows-a-requires

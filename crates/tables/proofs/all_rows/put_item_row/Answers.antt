@@ -2,7 +2,6 @@
 -- Assumes nothing.
 use Rattle.room.proofs.Counting.{counts-then, counts-as}
 use Rattle.tables.proofs.Listed.{item-row_is}
-use borrow.Author.Rules.{rules}
 use Rattle.tables.proofs.all_rows.put_item_row.Goals as goal
 
 pub returns : goal.returns

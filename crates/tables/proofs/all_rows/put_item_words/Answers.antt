@@ -2,7 +2,6 @@
 -- Assumes nothing.
 use Rattle.room.proofs.Counting.{counts-then, counts-as}
 use Rattle.tables.proofs.Listed.{item-numbers_are}
-use borrow.Author.Rules.{rules}
 use Rattle.tables.proofs.all_rows.put_item_words.Goals as goal
 
 pub returns : goal.returns

@@ -1,14 +1,9 @@
 -- `put_node_rows` puts the lines of the node rows. The invariant: of the whole, the lines from row i on are still to be put.
 -- Assumes nothing.
 use Prim.Native.Nat.{◌-◌, ◌≤◌}
-use mathlib.Core.Path.{sym, ap}
-use native.Mathlib.Omega.{arith}
-use Rattle.room.proofs.Counting.{Going, going_start, going_on, going_end, going_length, counts-as}
+use Rattle.room.proofs.Counting.{Going}
 use Rattle.rows.specs.Rows.{nodes_from, nodes_in}
-use Rattle.tables.specs.Rows.{node_row, node_rows}
-use Rattle.lines.proofs.Reading.{lines-on, lines_end}
-use Rattle.tables.proofs.Listed.{nodes-lined, nodes-start}
-use borrow.Author.Rules.{rules}
+use Rattle.tables.specs.Rows.{node_rows}
 use Rattle.tables.proofs.all_rows.put_node_rows.Given as goal
 
 abbrev pub invariant-loop-i : goal.invariant-loop-i

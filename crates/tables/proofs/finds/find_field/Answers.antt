@@ -1,6 +1,5 @@
 -- `find_field` finds by a number or by a name.
 -- Assumes nothing.
-use borrow.Author.Rules.{rules}
 use Rattle.tables.proofs.finds.find_field.Goals as goal
 
 pub returns-in-Standard : goal.returns-in-Standard

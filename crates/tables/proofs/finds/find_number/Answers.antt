@@ -1,6 +1,5 @@
 -- `find_number` finds the nearest row, or the node's own.
 -- Assumes nothing.
-use borrow.Author.Rules.{rules}
 use Rattle.tables.proofs.finds.find_number.Goals as goal
 
 pub returns-then-climbs : goal.returns-then-climbs

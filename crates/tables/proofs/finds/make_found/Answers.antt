@@ -3,7 +3,6 @@
 use Rattle.find.specs.Told.{wanted_of}
 use Rattle.lines.proofs.Ending.{gives_as}
 use Rattle.tables.proofs.Found.{found-bad, found-good, found-there}
-use borrow.Author.Rules.{rules}
 use Rattle.tables.proofs.finds.make_found.Goals as goal
 
 pub put_found-end-requires : goal.put_found-end-requires

@@ -2,7 +2,6 @@
 -- Assumes nothing.
 use Rattle.room.proofs.Counting.{counts-then, counts-as}
 use Rattle.tables.proofs.Found.{found-is}
-use borrow.Author.Rules.{rules}
 use Rattle.tables.proofs.finds.put_found.Goals as goal
 
 pub returns : goal.returns

@@ -3,7 +3,6 @@
 use Rattle.lines.proofs.Ending.{gives_as, printed-good, printed-bad}
 use Rattle.usage.proofs.Accounting.{kinds-told}
 use Rattle.usage.specs.Bytes.{lined, bytes_answer}
-use borrow.Author.Rules.{rules}
 use Rattle.usage.proofs.kinds.make_bytes.Goals as goal
 
 pub returns-in-Refused : goal.returns-in-Refused

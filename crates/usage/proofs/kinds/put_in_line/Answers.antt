@@ -2,7 +2,6 @@
 -- Assumes nothing.
 use Rattle.room.proofs.Counting.{counts-then, counts-as}
 use Rattle.usage.proofs.Accounting.{in_line_is}
-use borrow.Author.Rules.{rules}
 use Rattle.usage.proofs.kinds.put_in_line.Goals as goal
 
 pub returns : goal.returns

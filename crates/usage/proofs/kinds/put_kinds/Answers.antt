@@ -2,7 +2,6 @@
 -- Assumes nothing.
 use Rattle.room.proofs.Counting.{counts-then, counts-as}
 use Rattle.usage.proofs.Accounting.{kinds-are}
-use borrow.Author.Rules.{rules}
 use Rattle.usage.proofs.kinds.put_kinds.Goals as goal
 
 pub returns : goal.returns

@@ -1,7 +1,6 @@
 -- `total` is the sum of the kinds.
 -- Assumes nothing.
 use Rattle.usage.proofs.Accounting.{total-is}
-use borrow.Author.Rules.{rules}
 use Rattle.usage.proofs.kinds.total.Goals as goal
 
 pub returns : goal.returns

@@ -2,7 +2,6 @@
 -- Assumes nothing.
 use native.Mathlib.Omega.{arith}
 use Rattle.usage.proofs.Accounting.{with_none, with_over, with_long, with_short}
-use borrow.Author.Rules.{rules}
 use Rattle.usage.proofs.sums.add_file.Goals as goal
 
 pub returns-then-t-ge-MOST_FILES : goal.returns-then-t-ge-MOST_FILES

@@ -1,7 +1,6 @@
 -- Each sum is what its call gave.
 -- Assumes nothing.
 use mathlib.Core.Path.{refl}
-use borrow.Author.Rules.{rules}
 use Rattle.usage.proofs.sums.add_long.Goals as goal
 
 pub returns : goal.returns

@@ -1,7 +1,6 @@
 -- `add_short` adds the file to the totals.
 -- Assumes nothing.
 use Rattle.usage.proofs.Accounting.{totals_told}
-use borrow.Author.Rules.{rules}
 use Rattle.usage.proofs.sums.add_short.Goals as goal
 
 pub returns-in-Refused : goal.returns-in-Refused

@@ -3,7 +3,6 @@
 use mathlib.Core.Path.{ap}
 use Rattle.usage.specs.Bytes.{summed, sums_of, sums_told}
 use Rattle.lines.proofs.Ending.{gives_as, answered, printed-good, printed-bad}
-use borrow.Author.Rules.{rules}
 use Rattle.usage.proofs.sums.make_sums.Goals as goal
 
 pub returns-in-Refused : goal.returns-in-Refused

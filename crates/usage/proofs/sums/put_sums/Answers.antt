@@ -2,7 +2,6 @@
 -- Assumes nothing.
 use Rattle.room.proofs.Counting.{counts-then, counts-as}
 use Rattle.usage.proofs.Accounting.{sums-are}
-use borrow.Author.Rules.{rules}
 use Rattle.usage.proofs.sums.put_sums.Goals as goal
 
 pub returns : goal.returns

@@ -1,8 +1,5 @@
 -- `sum_files` is safe and ends: it passes one file after the other.
 -- Assumes nothing.
-use Prim.Native.Nat.{◌-◌}
-use native.Mathlib.Omega.{arith}
-use borrow.Author.Rules.{rules}
 use Rattle.xmf.proofs.sums.sum_files.Goals as goal
 
 pub loop-i-init : goal.loop-i-init

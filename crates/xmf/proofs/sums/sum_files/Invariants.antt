@@ -1,8 +1,6 @@
 -- `sum_files` is safe and ends: it passes one file after the other.
 -- Assumes nothing.
 use Prim.Native.Nat.{◌-◌}
-use native.Mathlib.Omega.{arith}
-use borrow.Author.Rules.{rules}
 use Rattle.xmf.proofs.sums.sum_files.Given as goal
 
 abbrev pub invariant-loop-i : goal.invariant-loop-i
