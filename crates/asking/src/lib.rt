@@ -7,6 +7,8 @@ ghost use Rattle.std.specs.Prelude.{◌≡◌};
 ghost use Rattle.asking.specs.Status.{worst};
 
 use answers::Asked;
+use console::Host;
+use std::io::{Eprint, Print};
 
 // Where a file's name stands: nowhere, at the end of the line, before an answer that is no refusal and on standard error, or on a line of its own. `Shown` is for the view
 // of `show`.
@@ -37,86 +39,98 @@ fn put_tail(out: &mut [u8], mode: Mode, name: &[u8]) -> usize {
 }
 
 // Writes the line that names the file.
-fn write_head(name: &[u8]) -> bool {
+fn write_head(rt: &(impl Print + Eprint), name: &[u8]) -> bool {
     let mut tail = console::line_buffer();
     let mut text = console::line_buffer();
     let a = answers::put_field(&mut tail, name);
     let n = spelling::within(a, &tail);
     let b = answers::put_head(&mut text, &tail[..n]);
     let m = spelling::within(b, &text);
-    console::write(&text[..m])
+    console::write(rt, &text[..m])
 }
 
 // Writes the text of an answer.
-fn write_text(text: &[u8], status: u64) -> Ended {
-    if console::write(text) {
+fn write_text(rt: &(impl Print + Eprint), text: &[u8], status: u64) -> Ended {
+    if console::write(rt, text) {
         return Ended::Status(status);
     }
     Ended::Stopped
 }
 
 // Writes an answer, with what stands before it.
-fn write_answer(mode: Mode, name: &[u8], text: &[u8], status: u64) -> Ended {
+fn write_answer(
+    rt: &(impl Print + Eprint),
+    mode: Mode,
+    name: &[u8],
+    text: &[u8],
+    status: u64,
+) -> Ended {
     match mode {
         Mode::Quiet => Ended::Status(status),
         Mode::Head => {
-            if write_head(name) {
-                return write_text(text, status);
+            if write_head(rt, name) {
+                return write_text(rt, text, status);
             }
             Ended::Stopped
         }
         Mode::Above => {
             if status == 0 {
-                console::say_name(name);
+                console::say_name(rt, name);
             }
-            write_text(text, status)
+            write_text(rt, text, status)
         }
-        _ => write_text(text, status),
+        _ => write_text(rt, text, status),
     }
 }
 
 // Answers for the bytes of a file.
-fn answer(asked: Asked, mode: Mode, word: &[u8], name: &[u8], file: &[u8]) -> Ended {
+fn answer(
+    rt: &(impl Print + Eprint),
+    asked: Asked,
+    mode: Mode,
+    word: &[u8],
+    name: &[u8],
+    file: &[u8],
+) -> Ended {
     let mut tail = console::line_buffer();
     let end = put_tail(&mut tail, mode, name);
     let t = spelling::within(end, &tail);
     let mut text = io::large_buffer();
     let made = answers::make(asked, word, file, &tail[..t], &mut text);
     if made.status == 1 {
-        console::trouble(name, b"the item row is hidden");
+        console::trouble(rt, name, b"the item row is hidden");
         return Ended::Status(1);
     }
     let n = made.size;
-    write_answer(mode, name, &text[..n], made.status)
+    write_answer(rt, mode, name, &text[..n], made.status)
 }
 
 // Answers for the file with this name.
-fn answer_read(asked: Asked, mode: Mode, word: &[u8], name: &[u8]) -> Ended {
+fn answer_read(rt: &impl Host, asked: Asked, mode: Mode, word: &[u8], name: &[u8]) -> Ended {
     let mut file = program::file_buffer();
-    let got = storage::read(name, &mut file);
-    if !got.right {
-        return Ended::Status(1);
+    match storage::read(rt, name, &mut file) {
+        Some(n) => answer(rt, asked, mode, word, name, &file[..n]),
+        None => Ended::Status(1),
     }
-    let n = got.size;
-    answer(asked, mode, word, name, &file[..n])
 }
 
-fn answer_named(asked: Asked, mode: Mode, word: &[u8], name: &[u8]) -> Ended {
+fn answer_named(rt: &impl Host, asked: Asked, mode: Mode, word: &[u8], name: &[u8]) -> Ended {
     match mode {
-        Mode::Shown => shows::show_named(name),
-        _ => answer_read(asked, mode, word, name),
+        Mode::Shown => shows::show_named(rt, name),
+        _ => answer_read(rt, asked, mode, word, name),
     }
 }
 
 // Answers for the file that argument i names.
-fn answer_file(asked: Asked, mode: Mode, word: &[u8], i: usize) -> Ended {
+fn answer_file(rt: &impl Host, asked: Asked, mode: Mode, word: &[u8], i: usize) -> Ended {
     let mut name = io::buffer();
-    let n = os::arg(i, &mut name);
-    if os::errno() != 0 {
-        console::failed(b"a file's name");
-        return Ended::Status(1);
+    match program::arg(rt, i, &mut name) {
+        Ok(n) => answer_named(rt, asked, mode, word, &name[..n]),
+        Err(error) => {
+            console::failed(rt, b"a file's name", error);
+            Ended::Status(1)
+        }
     }
-    answer_named(asked, mode, word, &name[..n])
 }
 
 // The worse of two statuses: 1, then 2, then 3, then 0.
@@ -133,31 +147,35 @@ pub fn worse(a: u64, b: u64) -> u64
 }
 
 // Answers for the files that the arguments from `first` on name.
-pub fn answer_files(asked: Asked, mode: Mode, first: usize, count: usize) -> u64 {
+pub fn answer_files(
+    rt: &impl Host,
+    asked: Asked,
+    mode: Mode,
+    first: usize,
+    count: usize,
+) -> u64 {
     let mut status = 0;
-    let mut i = first;
-    while i < count {
-        match answer_file(asked, mode, b"", i) {
+    for i in first..count {
+        match answer_file(rt, asked, mode, b"", i) {
             Ended::Stopped => return 1,
             Ended::Status(s) => status = worse(status, s),
         }
-        i = i + 1;
     }
     status
 }
 
 // Answers for one file.
-pub fn answer_one(asked: Asked, word: &[u8], i: usize) -> u64 {
-    match answer_file(asked, Mode::Plain, word, i) {
+pub fn answer_one(rt: &impl Host, asked: Asked, word: &[u8], i: usize) -> u64 {
+    match answer_file(rt, asked, Mode::Plain, word, i) {
         Ended::Stopped => 1,
         Ended::Status(s) => s,
     }
 }
 
 // FILE
-pub fn one(asked: Asked, count: usize) -> u64 {
+pub fn one(rt: &impl Host, asked: Asked, count: usize) -> u64 {
     if count != 4 {
-        return console::usage();
+        return console::usage(rt);
     }
-    answer_one(asked, b"", 3)
+    answer_one(rt, asked, b"", 3)
 }

@@ -2,60 +2,60 @@
 // the same bytes.
 use crate::Ended;
 use answers::Asked;
+use console::Host;
+use std::io::{Eprint, Print};
 
 // Writes the line that names the file, safe on a terminal.
-fn write_name(name: &[u8]) -> bool {
+fn write_name(rt: &(impl Print + Eprint), name: &[u8]) -> bool {
     let mut line = console::line_buffer();
     let a = room::put_bytes(&mut line, 0, b"F\t");
     let b = notes::put_safe(&mut line, a, name, name.len());
     let c = room::put_byte(&mut line, b, 0x0a);
     let n = spelling::within(c, &line);
-    console::write(&line[..n])
+    console::write(rt, &line[..n])
 }
 
 // Writes an answer of a file that has a sheet. Whatever it says, its status is not the view's.
-fn write_more(asked: Asked, file: &[u8]) -> bool {
+fn write_more(rt: &(impl Print + Eprint), asked: Asked, file: &[u8]) -> bool {
     let mut text = io::large_buffer();
     let made = answers::make(asked, b"", file, b"", &mut text);
     let n = made.size;
-    console::write(&text[..n])
+    console::write(rt, &text[..n])
 }
 
 // Writes what follows a sheet.
-fn write_rest(file: &[u8]) -> Ended {
-    if !write_more(Asked::Verdict, file) {
+fn write_rest(rt: &(impl Print + Eprint), file: &[u8]) -> Ended {
+    if !write_more(rt, Asked::Verdict, file) {
         return Ended::Stopped;
     }
-    if !write_more(Asked::Needs, file) {
+    if !write_more(rt, Asked::Needs, file) {
         return Ended::Stopped;
     }
     Ended::Status(0)
 }
 
 // Writes the sheet, or the line that refuses the file, and what follows.
-fn show(file: &[u8]) -> Ended {
+fn show(rt: &(impl Print + Eprint), file: &[u8]) -> Ended {
     let mut text = io::large_buffer();
     let made = answers::make(Asked::Sheet, b"", file, b"", &mut text);
     let n = made.size;
-    if !console::write(&text[..n]) {
+    if !console::write(rt, &text[..n]) {
         return Ended::Stopped;
     }
     if made.status != 0 {
         return Ended::Status(made.status);
     }
-    write_rest(file)
+    write_rest(rt, file)
 }
 
 // Shows the file with this name.
-pub fn show_named(name: &[u8]) -> Ended {
-    if !write_name(name) {
+pub fn show_named(rt: &impl Host, name: &[u8]) -> Ended {
+    if !write_name(rt, name) {
         return Ended::Stopped;
     }
     let mut file = program::file_buffer();
-    let got = storage::read(name, &mut file);
-    if !got.right {
-        return Ended::Status(1);
+    match storage::read(rt, name, &mut file) {
+        Some(n) => show(rt, &file[..n]),
+        None => Ended::Status(1),
     }
-    let n = got.size;
-    show(&file[..n])
 }

@@ -4,82 +4,89 @@
 ghost use Rattle.std.specs.Prelude.{◌≡◌, length};
 
 use answers::Asked;
-use libc::STDERR_FILENO;
+use console::Host;
 use spelling::Number;
+use std::io::Eprint;
 
 // Says what changed.
-fn say_changes(old: &[u8], new: &[u8], row: usize) {
+fn say_changes(rt: &impl Eprint, old: &[u8], new: &[u8], row: usize) {
     let mut text = io::buffer();
     let end = notes::put_changes(&mut text, old, new, row);
     let n = spelling::within(end, &text);
-    io::write_all(STDERR_FILENO, &text[..n]);
+    program::say(rt, &text[..n]);
 }
 
 // Whether a typed title may go into the row: not into binary data. Warns of bytes that the row's format has other characters for.
-fn may_type(name: &[u8], file: &[u8], row: usize, title: &[u8]) -> bool {
+fn may_type(rt: &impl Eprint, name: &[u8], file: &[u8], row: usize, title: &[u8]) -> bool {
     let format = answers::title_format(file, row);
     if format >= 4 {
-        console::trouble(name, b"the item row holds binary data: --bytes");
+        console::trouble(rt, name, b"the item row holds binary data: --bytes");
         return false;
     }
-    if format == 0 {
-        if spelling::has_high(title) {
-            console::trouble(name, b"bytes from 80h in a row of format 0, extended ASCII");
-        }
+    if format == 0 && spelling::has_high(title) {
+        console::trouble(
+            rt,
+            name,
+            b"bytes from 80h in a row of format 0, extended ASCII",
+        );
     }
     true
 }
 
 // Corrects the data of an item row.
-fn correct_data(file: &[u8], row: usize, asked: Asked, bytes: &[u8]) -> u64 {
+fn correct_data(rt: &impl Host, file: &[u8], row: usize, asked: Asked, bytes: &[u8]) -> u64 {
     let mut text = io::large_buffer();
     let made = answers::make(asked, bytes, file, b"", &mut text);
     let n = made.size;
     if made.status != 0 {
-        return console::say_refusal(&text[..n], made.status);
+        return console::say_refusal(rt, &text[..n], made.status);
     }
-    if storage::hand_out(&text[..n], 7, 8) != 0 {
+    if storage::hand_out(rt, &text[..n], 7, 8) != 0 {
         return 1;
     }
-    say_changes(file, &text[..n], row);
+    say_changes(rt, file, &text[..n], row);
     0
 }
 
 // Corrects by a title that was typed.
-fn correct_typed(name: &[u8], file: &[u8], row: usize, title: &[u8]) -> u64 {
-    if !may_type(name, file, row, title) {
+fn correct_typed(rt: &impl Host, name: &[u8], file: &[u8], row: usize, title: &[u8]) -> u64 {
+    if !may_type(rt, name, file, row, title) {
         return 1;
     }
-    correct_data(file, row, Asked::Retitled(row), title)
+    correct_data(rt, file, row, Asked::Retitled(row), title)
 }
 
 // The title is an argument.
-fn correct_text(name: &[u8], file: &[u8], row: usize) -> u64 {
+fn correct_text(rt: &impl Host, name: &[u8], file: &[u8], row: usize) -> u64 {
     let mut title = io::large_buffer();
-    let n = os::arg(6, &mut title);
-    if os::errno() != 0 {
-        console::failed(b"the title");
-        return 1;
+    match program::arg(rt, 6, &mut title) {
+        Ok(n) => correct_typed(rt, name, file, row, &title[..n]),
+        Err(error) => {
+            console::failed(rt, b"the title", error);
+            1
+        }
     }
-    correct_typed(name, file, row, &title[..n])
+}
+
+// The title was read.
+fn correct_read(rt: &impl Host, name: &[u8], file: &[u8], row: usize, title: &[u8]) -> u64 {
+    if title.len() > program::LONGEST {
+        return console::say_refusal(rt, b"too long\n", 2);
+    }
+    correct_typed(rt, name, file, row, title)
 }
 
 // The title is standard input.
-fn correct_input(name: &[u8], file: &[u8], row: usize) -> u64 {
-    if check::same(name, b"-") {
-        console::trouble(name, b"asked for as the file and as the title");
+fn correct_input(rt: &impl Host, name: &[u8], file: &[u8], row: usize) -> u64 {
+    if name == b"-".as_slice() {
+        console::trouble(rt, name, b"asked for as the file and as the title");
         return 1;
     }
     let mut title = program::file_buffer();
-    let got = storage::read(b"-", &mut title);
-    if !got.right {
-        return 1;
+    match storage::read(rt, b"-", &mut title) {
+        Some(n) => correct_read(rt, name, file, row, &title[..n]),
+        None => 1,
     }
-    let n = got.size;
-    if n > program::LONGEST {
-        return console::say_refusal(b"too long\n", 2);
-    }
-    correct_typed(name, file, row, &title[..n])
 }
 
 // Room for the hex digits of 65,536 bytes.
@@ -89,64 +96,69 @@ fn hex_buffer() -> [u8; 131072]
     [0; 131072]
 }
 
-fn correct_spelt(file: &[u8], row: usize, digits: &[u8]) -> u64 {
+fn correct_spelt(rt: &impl Host, file: &[u8], row: usize, digits: &[u8]) -> u64 {
     let mut bytes = io::large_buffer();
     if !spelling::spell(digits, &mut bytes) {
-        console::trouble(b"--bytes", b"no even number of hex digits");
+        console::trouble(rt, b"--bytes", b"no even number of hex digits");
         return 1;
     }
     let n = spelling::within(digits.len() / 2, &bytes);
-    correct_data(file, row, Asked::Corrected(row), &bytes[..n])
+    correct_data(rt, file, row, Asked::Corrected(row), &bytes[..n])
 }
 
 // The bytes are an argument, in hex.
-fn correct_bytes(file: &[u8], row: usize) -> u64 {
+fn correct_bytes(rt: &impl Host, file: &[u8], row: usize) -> u64 {
     let mut digits = hex_buffer();
-    let n = os::arg(6, &mut digits);
-    if os::errno() != 0 {
-        console::failed(b"the bytes");
-        return 1;
+    match program::arg(rt, 6, &mut digits) {
+        Ok(n) => correct_spelt(rt, file, row, &digits[..n]),
+        Err(error) => {
+            console::failed(rt, b"the bytes", error);
+            1
+        }
     }
-    correct_spelt(file, row, &digits[..n])
 }
 
 // KIND WORD OUT NEW
-fn correct_from(name: &[u8], file: &[u8], row: usize) -> u64 {
+fn correct_from(rt: &impl Host, name: &[u8], file: &[u8], row: usize) -> u64 {
     if file.len() > program::LONGEST {
-        return console::say_refusal(b"too long\n", 2);
+        return console::say_refusal(rt, b"too long\n", 2);
     }
-    if console::is_word(5, b"bytes") {
-        return correct_bytes(file, row);
+    if console::is_word(rt, 5, b"bytes") {
+        return correct_bytes(rt, file, row);
     }
-    if console::is_word(5, b"stdin") {
-        return correct_input(name, file, row);
+    if console::is_word(rt, 5, b"stdin") {
+        return correct_input(rt, name, file, row);
     }
-    correct_text(name, file, row)
+    correct_text(rt, name, file, row)
 }
 
-fn correct_named(name: &[u8], row: usize) -> u64 {
+fn correct_named(rt: &impl Host, name: &[u8], row: usize) -> u64 {
     let mut file = program::file_buffer();
-    let got = storage::read(name, &mut file);
-    if !got.right {
-        return 1;
+    match storage::read(rt, name, &mut file) {
+        Some(n) => correct_from(rt, name, &file[..n], row),
+        None => 1,
     }
-    let n = got.size;
-    correct_from(name, &file[..n], row)
+}
+
+// The file's name is an argument, and its row the one after.
+fn correct_row(rt: &impl Host, name: &[u8]) -> u64 {
+    match console::number_at(rt, 4) {
+        Number::None => 1,
+        Number::Is(row) => correct_named(rt, name, row as usize),
+    }
 }
 
 // FILE ROW KIND WORD OUT NEW
-pub fn correct(count: usize) -> u64 {
+pub fn correct(rt: &impl Host, count: usize) -> u64 {
     if count != 9 {
-        return console::usage();
+        return console::usage(rt);
     }
     let mut name = io::buffer();
-    let n = os::arg(3, &mut name);
-    if os::errno() != 0 {
-        console::failed(b"the file's name");
-        return 1;
-    }
-    match console::number_at(4) {
-        Number::None => 1,
-        Number::Is(row) => correct_named(&name[..n], row as usize),
+    match program::arg(rt, 3, &mut name) {
+        Ok(n) => correct_row(rt, &name[..n]),
+        Err(error) => {
+            console::failed(rt, b"the file's name", error);
+            1
+        }
     }
 }

@@ -2,118 +2,119 @@
 #![tactic(auto)]
 
 use answers::Asked;
-use libc::STDERR_FILENO;
+use console::Host;
 use spelling::Number;
+use std::io::{Eprint, Print};
 
 // Says where a resource comes from.
-fn say_origin(name: &[u8], file: &[u8], row: usize) {
+fn say_origin(rt: &impl Eprint, name: &[u8], file: &[u8], row: usize) {
     let mut text = io::large_buffer();
     let made = answers::make(Asked::Origin(row), b"", file, b"", &mut text);
     let n = made.size;
-    io::write_all(STDERR_FILENO, b"xmf: ");
-    console::say_safe(name);
-    io::write_all(STDERR_FILENO, b": ");
-    io::write_all(STDERR_FILENO, &text[..n]);
+    program::say(rt, b"xmf: ");
+    console::say_safe(rt, name);
+    program::say(rt, b": ");
+    program::say(rt, &text[..n]);
 }
 
-fn extract_from(name: &[u8], file: &[u8], row: usize) -> u64 {
+fn extract_from(rt: &impl Host, name: &[u8], file: &[u8], row: usize) -> u64 {
     let mut text = io::large_buffer();
     let made = answers::make(Asked::Resource(row), b"", file, b"", &mut text);
     let n = made.size;
     if made.status != 0 {
-        return console::say_refusal(&text[..n], made.status);
+        return console::say_refusal(rt, &text[..n], made.status);
     }
-    if storage::hand_out(&text[..n], 5, 6) != 0 {
+    if storage::hand_out(rt, &text[..n], 5, 6) != 0 {
         return 1;
     }
-    say_origin(name, file, row);
+    say_origin(rt, name, file, row);
     0
 }
 
-fn extract_named(name: &[u8], row: usize) -> u64 {
+fn extract_named(rt: &impl Host, name: &[u8], row: usize) -> u64 {
     let mut file = program::file_buffer();
-    let got = storage::read(name, &mut file);
-    if !got.right {
-        return 1;
+    match storage::read(rt, name, &mut file) {
+        Some(n) => extract_from(rt, name, &file[..n], row),
+        None => 1,
     }
-    let n = got.size;
-    extract_from(name, &file[..n], row)
+}
+
+// The file's name is an argument, and its row the one after.
+fn extract_row(rt: &impl Host, name: &[u8]) -> u64 {
+    match console::number_at(rt, 4) {
+        Number::None => 1,
+        Number::Is(row) => extract_named(rt, name, row as usize),
+    }
 }
 
 // FILE ROW OUT NEW
-pub fn extract(count: usize) -> u64 {
+pub fn extract(rt: &impl Host, count: usize) -> u64 {
     if count != 7 {
-        return console::usage();
+        return console::usage(rt);
     }
     let mut name = io::buffer();
-    let n = os::arg(3, &mut name);
-    if os::errno() != 0 {
-        console::failed(b"the file's name");
-        return 1;
-    }
-    match console::number_at(4) {
-        Number::None => 1,
-        Number::Is(row) => extract_named(&name[..n], row as usize),
+    match program::arg(rt, 3, &mut name) {
+        Ok(n) => extract_row(rt, &name[..n]),
+        Err(error) => {
+            console::failed(rt, b"the file's name", error);
+            1
+        }
     }
 }
 
 // Says what was mended: the lines of the fields that changed.
-fn say_mended(file: &[u8]) {
+fn say_mended(rt: &impl Eprint, file: &[u8]) {
     let mut text = io::large_buffer();
     let made = answers::make(Asked::MendLines, b"", file, b"", &mut text);
     let n = made.size;
-    io::write_all(STDERR_FILENO, &text[..n]);
+    program::say(rt, &text[..n]);
 }
 
 // Hands out the copy whose header is mended.
-fn mend_from(file: &[u8]) -> u64 {
+fn mend_from(rt: &impl Host, file: &[u8]) -> u64 {
     let mut text = io::large_buffer();
     let made = answers::make(Asked::Mended, b"", file, b"", &mut text);
     let n = made.size;
     if made.status != 0 {
-        return console::say_refusal(&text[..n], made.status);
+        return console::say_refusal(rt, &text[..n], made.status);
     }
-    if storage::hand_out(&text[..n], 4, 5) != 0 {
+    if storage::hand_out(rt, &text[..n], 4, 5) != 0 {
         return 1;
     }
-    say_mended(file);
+    say_mended(rt, file);
     0
 }
 
 // FILE OUT NEW
-pub fn mend(count: usize) -> u64 {
+pub fn mend(rt: &impl Host, count: usize) -> u64 {
     if count != 6 {
-        return console::usage();
+        return console::usage(rt);
     }
     let mut file = program::file_buffer();
-    let got = storage::read_at(3, b"the file's name", &mut file);
-    if !got.right {
-        return 1;
+    match storage::read_at(rt, 3, b"the file's name", &mut file) {
+        Some(n) => mend_from(rt, &file[..n]),
+        None => 1,
     }
-    let n = got.size;
-    mend_from(&file[..n])
 }
 
-fn convert_from(asked: Asked, file: &[u8]) -> u64 {
+fn convert_from(rt: &(impl Print + Eprint), asked: Asked, file: &[u8]) -> u64 {
     let mut text = io::large_buffer();
     let made = answers::make(asked, b"", file, b"", &mut text);
     let n = made.size;
     if made.status != 0 {
-        return console::say_refusal(&text[..n], made.status);
+        return console::say_refusal(rt, &text[..n], made.status);
     }
-    console::write_answer(&text[..n], 0)
+    console::write_answer(rt, &text[..n], 0)
 }
 
 // FILE
-pub fn convert(asked: Asked, count: usize) -> u64 {
+pub fn convert(rt: &impl Host, asked: Asked, count: usize) -> u64 {
     if count != 4 {
-        return console::usage();
+        return console::usage(rt);
     }
     let mut file = program::file_buffer();
-    let got = storage::read_at(3, b"the file's name", &mut file);
-    if !got.right {
-        return 1;
+    match storage::read_at(rt, 3, b"the file's name", &mut file) {
+        Some(n) => convert_from(rt, asked, &file[..n]),
+        None => 1,
     }
-    let n = got.size;
-    convert_from(asked, &file[..n])
 }

@@ -4,8 +4,11 @@
 
 ghost use Rattle.std.specs.Prelude.{◌≡◌, length};
 
+use console::Host;
 use shelf::{Got, Outcome};
 use spelling::Number;
+use std::io::{Eprint, Input, Print};
+use std::rt::Files;
 
 // The bytes of the file.
 const SIZE: usize = shelf_file::SIZE;
@@ -13,40 +16,41 @@ const SIZE: usize = shelf_file::SIZE;
 // ---- the file
 
 // Reads a shelf; answers whether it is one.
-fn read_shelf(name: &[u8], file: &mut [u8]) -> bool {
-    let got = storage::read(name, file);
-    if !got.right {
-        return false;
+fn read_shelf(rt: &(impl Files + Input + Eprint), name: &[u8], file: &mut [u8]) -> bool {
+    match storage::read(rt, name, file) {
+        None => false,
+        Some(SIZE) => true,
+        Some(_) => {
+            console::trouble(
+                rt,
+                name,
+                b"no shelf, which has 1,049,088 bytes; xmf shelf new makes one",
+            );
+            false
+        }
     }
-    if got.size != SIZE {
-        console::trouble(
-            name,
-            b"no shelf, which has 1,049,088 bytes; xmf shelf new makes one",
-        );
-        return false;
-    }
-    true
 }
 
 // Says a refusal.
-fn refused(number: u64, place: usize) -> u64 {
+fn refused(rt: &impl Eprint, number: u64, place: usize) -> u64 {
     let mut line = io::buffer();
     let end = shelf_file::put_refusal(&mut line, number, place);
     let n = spelling::within(end, &line);
-    console::say_refusal(&line[..n], 2)
+    console::say_refusal(rt, &line[..n], 2)
 }
 
 // What a call leaves: a refusal's line, or its bytes as the file.
-fn leave(name: &[u8], mode: u64, file: &[u8], outcome: Outcome) -> u64 {
+fn leave(rt: &impl Host, name: &[u8], mode: u64, file: &[u8], outcome: Outcome) -> u64 {
     match outcome {
-        Outcome::Refused(number, place) => refused(number, place),
-        Outcome::Done => storage::replace(name, mode, file),
+        Outcome::Refused(number, place) => refused(rt, number, place),
+        Outcome::Done => storage::replace(rt, name, mode, file),
     }
 }
 
 // ---- the calls; `file` is the whole shelf
 
 fn put_on(
+    rt: &impl Host,
     name: &[u8],
     mode: u64,
     desk: u64,
@@ -56,27 +60,42 @@ fn put_on(
     file: &mut [u8],
 ) -> u64 {
     let outcome = shelf_file::put(file, desk, call, boat, sheet);
-    leave(name, mode, file, outcome)
+    leave(rt, name, mode, file, outcome)
 }
 
-fn drop_from(name: &[u8], mode: u64, desk: u64, call: u64, boat: u64, file: &mut [u8]) -> u64 {
+fn drop_from(
+    rt: &impl Host,
+    name: &[u8],
+    mode: u64,
+    desk: u64,
+    call: u64,
+    boat: u64,
+    file: &mut [u8],
+) -> u64 {
     let outcome = shelf_file::drop(file, desk, call, boat);
-    leave(name, mode, file, outcome)
+    leave(rt, name, mode, file, outcome)
 }
 
-fn get_from(desk: u64, call: u64, boat: u64, file: &[u8]) -> u64 {
+fn get_from(
+    rt: &(impl Print + Eprint),
+    desk: u64,
+    call: u64,
+    boat: u64,
+    file: &[u8],
+) -> u64 {
     let mut sheet = io::large_buffer();
     match shelf_file::get(file, desk, call, boat, &mut sheet) {
-        Got::Refused(number, place) => refused(number, place),
+        Got::Refused(number, place) => refused(rt, number, place),
         Got::Sheet(size) => {
             let n = spelling::within(size, &sheet);
-            console::write_answer(&sheet[..n], 0)
+            console::write_answer(rt, &sheet[..n], 0)
         }
     }
 }
 
 // Puts, gets or drops, as argument 3 says; `sheet` is what is put, and `file` has room for a shelf and one byte more, which tells that the file is too long.
 fn call_in(
+    rt: &impl Host,
     name: &[u8],
     mode: u64,
     desk: u64,
@@ -85,17 +104,17 @@ fn call_in(
     sheet: &[u8],
     file: &mut [u8],
 ) -> u64 {
-    if !read_shelf(name, file) {
+    if !read_shelf(rt, name, file) {
         return 1;
     }
     let n = spelling::within(SIZE, file);
-    if console::is_word(3, b"put") {
-        return put_on(name, mode, desk, call, boat, sheet, &mut file[..n]);
+    if console::is_word(rt, 3, b"put") {
+        return put_on(rt, name, mode, desk, call, boat, sheet, &mut file[..n]);
     }
-    if console::is_word(3, b"get") {
-        return get_from(desk, call, boat, &file[..n]);
+    if console::is_word(rt, 3, b"get") {
+        return get_from(rt, desk, call, boat, &file[..n]);
     }
-    drop_from(name, mode, desk, call, boat, &mut file[..n])
+    drop_from(rt, name, mode, desk, call, boat, &mut file[..n])
 }
 
 // Room for a shelf and one byte more.
@@ -105,64 +124,80 @@ fn shelf_buffer() -> [u8; SIZE + 1]
     [0; SIZE + 1]
 }
 
-fn call_on(name: &[u8], mode: u64, desk: u64, call: u64, boat: u64, sheet: &[u8]) -> u64 {
+fn call_on(
+    rt: &impl Host,
+    name: &[u8],
+    mode: u64,
+    desk: u64,
+    call: u64,
+    boat: u64,
+    sheet: &[u8],
+) -> u64 {
     let mut file = shelf_buffer();
-    call_in(name, mode, desk, call, boat, sheet, &mut file)
+    call_in(rt, name, mode, desk, call, boat, sheet, &mut file)
 }
 
 // Reads the sheet that argument 9 names before the shelf is read.
-fn put_sheet(name: &[u8], mode: u64, desk: u64, call: u64, boat: u64, from: &[u8]) -> u64 {
+fn put_sheet(
+    rt: &impl Host,
+    name: &[u8],
+    mode: u64,
+    desk: u64,
+    call: u64,
+    boat: u64,
+    from: &[u8],
+) -> u64 {
     let mut sheet = program::file_buffer();
-    let got = storage::read(from, &mut sheet);
-    if !got.right {
-        return 1;
+    match storage::read(rt, from, &mut sheet) {
+        Some(n) => call_on(rt, name, mode, desk, call, boat, &sheet[..n]),
+        None => 1,
     }
-    let n = got.size;
-    call_on(name, mode, desk, call, boat, &sheet[..n])
 }
 
-fn put_named(name: &[u8], mode: u64, desk: u64, call: u64, boat: u64) -> u64 {
+fn put_named(rt: &impl Host, name: &[u8], mode: u64, desk: u64, call: u64, boat: u64) -> u64 {
     let mut from = io::buffer();
-    let n = os::arg(9, &mut from);
-    if os::errno() != 0 {
-        console::failed(b"the sheet's name");
-        return 1;
+    match program::arg(rt, 9, &mut from) {
+        Ok(n) => put_sheet(rt, name, mode, desk, call, boat, &from[..n]),
+        Err(error) => {
+            console::failed(rt, b"the sheet's name", error);
+            1
+        }
     }
-    put_sheet(name, mode, desk, call, boat, &from[..n])
 }
 
 // The number that argument i is, and no larger one.
-fn exact_at(i: usize) -> Number {
-    match console::number_at(i) {
+fn exact_at(rt: &impl Host, i: usize) -> Number {
+    match console::number_at(rt, i) {
         Number::None => Number::None,
         Number::Is(n) => {
-            if n < 18446744073709551615 {
+            if n < u64::MAX || console::is_word(rt, i, b"18446744073709551615") {
                 return Number::Is(n);
             }
-            if console::is_word(i, b"18446744073709551615") {
-                return Number::Is(n);
-            }
-            console::trouble(b"a desk, call or boat", b"above 18446744073709551615");
+            console::trouble(
+                rt,
+                b"a desk, call or boat",
+                b"above 18446744073709551615",
+            );
             Number::None
         }
     }
 }
 
 // MODE DESK CALL BOAT, and for put the sheet's name
-fn labelled(name: &[u8], count: usize) -> u64 {
-    match console::number_at(5) {
+fn labelled(rt: &impl Host, name: &[u8], count: usize) -> u64 {
+    match console::number_at(rt, 5) {
         Number::None => 1,
-        Number::Is(mode) => match exact_at(6) {
+        Number::Is(mode) => match exact_at(rt, 6) {
             Number::None => 1,
-            Number::Is(desk) => match exact_at(7) {
+            Number::Is(desk) => match exact_at(rt, 7) {
                 Number::None => 1,
-                Number::Is(call) => match exact_at(8) {
+                Number::Is(call) => match exact_at(rt, 8) {
                     Number::None => 1,
                     Number::Is(boat) => {
                         if count == 10 {
-                            return put_named(name, mode, desk, call, boat);
+                            return put_named(rt, name, mode, desk, call, boat);
                         }
-                        call_on(name, mode, desk, call, boat, b"")
+                        call_on(rt, name, mode, desk, call, boat, b"")
                     }
                 },
             },
@@ -171,21 +206,27 @@ fn labelled(name: &[u8], count: usize) -> u64 {
 }
 
 // Makes a fresh shelf.
-fn make(name: &[u8]) -> u64 {
+fn make(rt: &impl Host, name: &[u8]) -> u64 {
     let file = shelf_file::new();
-    storage::replace(name, 4096, &file)
+    storage::replace(rt, name, 4096, &file)
+}
+
+// A call on the shelf with this name.
+fn run_named(rt: &impl Host, name: &[u8], count: usize) -> u64 {
+    if console::is_word(rt, 3, b"new") {
+        return make(rt, name);
+    }
+    labelled(rt, name, count)
 }
 
 // `new` SHELF; or `put`, `get` or `drop`, SHELF MODE DESK CALL BOAT, and for put the sheet's name. MODE is that of a new file, 4096 where it is the usual one.
-pub fn run(count: usize) -> u64 {
+pub fn run(rt: &impl Host, count: usize) -> u64 {
     let mut name = io::buffer();
-    let n = os::arg(4, &mut name);
-    if os::errno() != 0 {
-        console::failed(b"the shelf's name");
-        return 1;
+    match program::arg(rt, 4, &mut name) {
+        Ok(n) => run_named(rt, &name[..n], count),
+        Err(error) => {
+            console::failed(rt, b"the shelf's name", error);
+            1
+        }
     }
-    if console::is_word(3, b"new") {
-        return make(&name[..n]);
-    }
-    labelled(&name[..n], count)
 }

@@ -5,80 +5,57 @@ mod made;
 mod placed;
 mod replaced;
 
-ghost use Rattle.io.specs.Counts.{IsPrefixLen};
+ghost use Rattle.program.specs.Inputs as program;
+ghost use Rattle.storage.specs.Got.{Inside};
 
-use libc::STDIN_FILENO;
+use console::Host;
 pub use placed::hand_out;
-use program::Input;
 pub use replaced::replace;
+use std::io::{Eprint, Input, Result};
+use std::rt::Files;
 
-// How many bytes of an input stand at the start of the buffer, and whether it could be read.
-#[derive(Clone, Copy)]
-pub struct Got {
-    pub size: usize,
-    pub right: bool,
+// Opens the file with this name, and reads it.
+fn read_file(rt: &impl Files, name: &[u8], buf: &mut [u8]) -> Result<usize>
+    ensures { program.Inside result buf.new }
+{
+    let mut file = program::open(rt, name)?;
+    program::read_input(&mut file, buf)
 }
 
-// Reads an input.
-fn read_from(fd: i32, buf: &mut [u8]) -> Got
-    ensures { IsPrefixLen result.size buf.new }
+// Reads the file with this name, or standard input for `-`.
+fn read_named(rt: &(impl Files + Input), name: &[u8], buf: &mut [u8]) -> Result<usize>
+    ensures { program.Inside result buf.new }
 {
-    match program::read_input(fd, buf) {
-        Input::Failed => Got {
-            size: 0,
-            right: false,
-        },
-        Input::Bytes(n) => Got {
-            size: n,
-            right: true,
-        },
+    if name == b"-".as_slice() {
+        program::read_input(&mut rt.reader(), buf)
+    } else {
+        read_file(rt, name, buf)
     }
 }
 
-// Reads the file with this name, or standard input for `-`. A file that could not be read stays open: errno says why.
-fn read_named(name: &[u8], buf: &mut [u8]) -> Got
-    ensures { IsPrefixLen result.size buf.new }
+// The same; says why it could not be read. Answers how many bytes stand at the start of the buffer, if it could.
+pub fn read(rt: &(impl Files + Input + Eprint), name: &[u8], buf: &mut [u8]) -> Option<usize>
+    ensures { Inside result buf.new }
 {
-    if check::same(name, b"-") {
-        return read_from(STDIN_FILENO, buf);
+    match read_named(rt, name, buf) {
+        Ok(n) => Some(n),
+        Err(error) => {
+            console::failed(rt, name, error);
+            None
+        }
     }
-    let fd = os::open_read(name);
-    if fd < 0 {
-        return Got {
-            size: 0,
-            right: false,
-        };
-    }
-    let got = read_from(fd, buf);
-    if got.right {
-        libc::close(fd);
-    }
-    got
-}
-
-// The same; says why it could not be read.
-pub fn read(name: &[u8], buf: &mut [u8]) -> Got
-    ensures { IsPrefixLen result.size buf.new }
-{
-    let got = read_named(name, buf);
-    if !got.right {
-        console::failed(name);
-    }
-    got
 }
 
 // Reads the file that argument i names; says why it could not be read. `what` the argument is stands in the message where it is missing or too long.
-pub fn read_at(i: usize, what: &[u8], buf: &mut [u8]) -> Got
-    ensures { IsPrefixLen result.size buf.new }
+pub fn read_at(rt: &impl Host, i: usize, what: &[u8], buf: &mut [u8]) -> Option<usize>
+    ensures { Inside result buf.new }
 {
     let mut name = io::buffer();
-    let n = os::arg(i, &mut name);
-    if os::errno() != 0 {
-        console::failed(what);
-        return Got {
-            size: 0,
-            right: false,
-        };
+    match program::arg(rt, i, &mut name) {
+        Ok(n) => read(rt, &name[..n], buf),
+        Err(error) => {
+            console::failed(rt, what, error);
+            None
+        }
     }
-    read(&name[..n], buf)
 }

@@ -1,11 +1,12 @@
 // A new file: it is written beside the name that it is to have, reaches the device and takes the name.
 use crate::made;
-use libc::STDOUT_FILENO;
+use console::Host;
+use std::random::RandomSource;
 
-// Puts the name of the file that is written first: beside the new one, with digits by chance.
-fn put_part_name(out: &mut [u8], name: &[u8]) -> usize {
+// Puts the name of the file that is written first: beside the new one, with digits by chance. Without chance they are zeros, and a file that is there is not written over.
+fn put_part_name(rt: &impl RandomSource, out: &mut [u8], name: &[u8]) -> usize {
     let mut chance = [0u8; 4];
-    libc::getentropy(&mut chance);
+    let _ = rt.fill_bytes(&mut chance);
     let a = room::put_bytes(out, 0, name);
     let b = room::put_bytes(out, a, b".xmf-");
     let c = room::put_decimal(out, b, cursor::wide(chance[0]));
@@ -15,84 +16,91 @@ fn put_part_name(out: &mut [u8], name: &[u8]) -> usize {
 }
 
 // Makes the file that is written first.
-fn make_part(part: &[u8], name: &[u8], bytes: &[u8]) -> bool {
-    let fd = os::create(part);
-    if fd < 0 {
-        console::failed(name);
-        return false;
+fn make_part(rt: &impl Host, part: &[u8], name: &[u8], bytes: &[u8]) -> bool {
+    match made::create(rt, part) {
+        Ok(file) => {
+            if rt.is_standard(&file) {
+                console::trouble(rt, name, b"standard input, output or error is closed");
+                made::remove(rt, part);
+                return false;
+            }
+            made::fill_part(rt, file, part, name, bytes)
+        }
+        Err(error) => {
+            console::failed(rt, name, error);
+            false
+        }
     }
-    if fd < 3 {
-        console::trouble(name, b"standard input, output or error is closed");
-        libc::close(fd);
-        os::unlink(part);
-        return false;
-    }
-    made::fill_part(fd, part, name, bytes)
 }
 
 // Takes the name of the new file, which no file has.
-fn take_name(name: &[u8]) -> bool {
-    let fd = os::create(name);
-    if fd < 0 {
-        console::failed(name);
-        return false;
+fn take_name(rt: &impl Host, name: &[u8]) -> bool {
+    match made::create(rt, name) {
+        Ok(_) => true,
+        Err(error) => {
+            console::failed(rt, name, error);
+            false
+        }
     }
-    libc::close(fd);
-    true
 }
 
 // Gives the new file its name, where it is there already or not by `over`.
-fn place_part(part: &[u8], name: &[u8], over: bool) -> bool {
-    if !over {
-        if !take_name(name) {
-            os::unlink(part);
-            return false;
-        }
-    }
-    if os::rename(part, name) != 0 {
-        console::failed(name);
-        os::unlink(part);
-        if !over {
-            os::unlink(name);
-        }
+fn place_part(rt: &impl Host, part: &[u8], name: &[u8], over: bool) -> bool {
+    if !over && !take_name(rt, name) {
+        made::remove(rt, part);
         return false;
     }
-    true
+    match made::rename(rt, part, name) {
+        Ok(()) => true,
+        Err(error) => {
+            console::failed(rt, name, error);
+            made::remove(rt, part);
+            if !over {
+                made::remove(rt, name);
+            }
+            false
+        }
+    }
 }
 
 // Makes the file; answers the status.
-fn make_file(name: &[u8], over: bool, bytes: &[u8]) -> u64 {
+fn make_file(rt: &impl Host, name: &[u8], over: bool, bytes: &[u8]) -> u64 {
     let mut part = console::line_buffer();
-    let end = put_part_name(&mut part, name);
+    let end = put_part_name(rt, &mut part, name);
     let n = spelling::within(end, &part);
-    if !make_part(&part[..n], name, bytes) {
+    if !make_part(rt, &part[..n], name, bytes) {
         return 1;
     }
-    if !place_part(&part[..n], name, over) {
+    if !place_part(rt, &part[..n], name, over) {
         return 1;
     }
     0
 }
 
 // Writes bytes to standard output, which is no terminal.
-fn write_out(bytes: &[u8]) -> u64 {
-    if libc::isatty(STDOUT_FILENO) == 1 {
-        console::trouble(b"standard output", b"a terminal, and the answer is no text");
+fn write_out(rt: &impl Host, bytes: &[u8]) -> u64 {
+    if rt.writes_to_terminal() {
+        console::trouble(
+            rt,
+            b"standard output",
+            b"a terminal, and the answer is no text",
+        );
         return 1;
     }
-    console::write_answer(bytes, 0)
+    console::write_answer(rt, bytes, 0)
 }
 
 // Hands bytes out as two arguments say: `new NAME`, `over NAME` or `out -`.
-pub fn hand_out(bytes: &[u8], out: usize, new: usize) -> u64 {
-    if console::is_word(out, b"out") {
-        return write_out(bytes);
+pub fn hand_out(rt: &impl Host, bytes: &[u8], out: usize, new: usize) -> u64 {
+    if console::is_word(rt, out, b"out") {
+        return write_out(rt, bytes);
     }
     let mut name = io::buffer();
-    let n = os::arg(new, &mut name);
-    if os::errno() != 0 {
-        console::failed(b"the new file's name");
-        return 1;
+    match program::arg(rt, new, &mut name) {
+        Ok(n) => make_file(rt, &name[..n], console::is_word(rt, out, b"over"), bytes),
+        Err(error) => {
+            console::failed(rt, b"the new file's name", error);
+            1
+        }
     }
-    make_file(&name[..n], console::is_word(out, b"over"), bytes)
 }

@@ -10,29 +10,34 @@ mod tags;
 
 use answers::Asked;
 use asking::Mode;
+use console::Host;
 use find::Field;
 use spelling::Number;
+use std::fmt::InlineText;
+use std::fs::OpenOptions;
+use std::io::{Result, Write};
+use std::rt::{Env, Files};
 
 // The mode that the argument after the command names.
-fn named_mode() -> Mode {
-    if console::is_word(3, b"names") {
+fn named_mode(rt: &impl Env) -> Mode {
+    if console::is_word(rt, 3, b"names") {
         return Mode::Field;
     }
-    if console::is_word(3, b"heads") {
+    if console::is_word(rt, 3, b"heads") {
         return Mode::Head;
     }
-    if console::is_word(3, b"quiet") {
+    if console::is_word(rt, 3, b"quiet") {
         return Mode::Quiet;
     }
     Mode::Plain
 }
 
 // MODE FILE..; an answer of several lines
-fn longer(asked: Asked, count: usize) -> u64 {
-    if console::is_word(3, b"names") {
-        return asking::answer_files(asked, Mode::Above, 4, count);
+fn longer(rt: &impl Host, asked: Asked, count: usize) -> u64 {
+    if console::is_word(rt, 3, b"names") {
+        return asking::answer_files(rt, asked, Mode::Above, 4, count);
     }
-    asking::answer_files(asked, named_mode(), 4, count)
+    asking::answer_files(rt, asked, named_mode(rt), 4, count)
 }
 
 fn find_asked(own: bool, row: usize, field: Field) -> Asked {
@@ -43,10 +48,11 @@ fn find_asked(own: bool, row: usize, field: Field) -> Asked {
     }
 }
 
-fn find_number(own: bool, row: usize) -> u64 {
-    match console::number_at(7) {
+fn find_number(rt: &impl Host, own: bool, row: usize) -> u64 {
+    match console::number_at(rt, 7) {
         Number::None => 1,
         Number::Is(number) => asking::answer_one(
+            rt,
             find_asked(own, row, Field::Standard(number)),
             b"",
             4,
@@ -54,60 +60,61 @@ fn find_number(own: bool, row: usize) -> u64 {
     }
 }
 
-fn find_name(own: bool, row: usize) -> u64 {
+fn find_name(rt: &impl Host, own: bool, row: usize) -> u64 {
     let mut name = io::buffer();
-    let n = os::arg(7, &mut name);
-    if os::errno() != 0 {
-        console::failed(b"the field's name");
-        return 1;
+    match program::arg(rt, 7, &mut name) {
+        Ok(n) => asking::answer_one(rt, find_asked(own, row, Field::Custom), &name[..n], 4),
+        Err(error) => {
+            console::failed(rt, b"the field's name", error);
+            1
+        }
     }
-    asking::answer_one(find_asked(own, row, Field::Custom), &name[..n], 4)
 }
 
 // `near` or `own`, FILE, ROW, and `S` and a number or `C` and a name
-fn finds(count: usize) -> u64 {
+fn finds(rt: &impl Host, count: usize) -> u64 {
     if count != 8 {
-        return console::usage();
+        return console::usage(rt);
     }
-    match console::number_at(5) {
+    match console::number_at(rt, 5) {
         Number::None => 1,
         Number::Is(row) => {
-            let own = console::is_word(3, b"own");
-            if console::is_word(6, b"S") {
-                return find_number(own, row as usize);
+            let own = console::is_word(rt, 3, b"own");
+            if console::is_word(rt, 6, b"S") {
+                return find_number(rt, own, row as usize);
             }
-            find_name(own, row as usize)
+            find_name(rt, own, row as usize)
         }
     }
 }
 
 // FILE ROW
-fn resolves(count: usize) -> u64 {
+fn resolves(rt: &impl Host, count: usize) -> u64 {
     if count != 5 {
-        return console::usage();
+        return console::usage(rt);
     }
-    match console::number_at(4) {
+    match console::number_at(rt, 4) {
         Number::None => 1,
-        Number::Is(row) => asking::answer_one(Asked::Place(row as usize), b"", 3),
-    }
-}
-
-fn needs_row() -> u64 {
-    match console::number_at(4) {
-        Number::None => 1,
-        Number::Is(row) => asking::answer_one(Asked::RowNeeds(row as usize), b"", 3),
+        Number::Is(row) => asking::answer_one(rt, Asked::Place(row as usize), b"", 3),
     }
 }
 
-fn needs_count() -> u64 {
-    match console::number_at(4) {
+fn needs_row(rt: &impl Host) -> u64 {
+    match console::number_at(rt, 4) {
         Number::None => 1,
-        Number::Is(row) => match console::number_at(5) {
+        Number::Is(row) => asking::answer_one(rt, Asked::RowNeeds(row as usize), b"", 3),
+    }
+}
+
+fn needs_count(rt: &impl Host) -> u64 {
+    match console::number_at(rt, 4) {
+        Number::None => 1,
+        Number::Is(row) => match console::number_at(rt, 5) {
             Number::None => 1,
-            Number::Is(channel) => match console::number_at(6) {
+            Number::Is(channel) => match console::number_at(rt, 6) {
                 Number::None => 1,
                 Number::Is(resource) => {
-                    asking::answer_one(Asked::Count(row as usize, channel, resource), b"", 3)
+                    asking::answer_one(rt, Asked::Count(row as usize, channel, resource), b"", 3)
                 }
             },
         },
@@ -115,135 +122,145 @@ fn needs_count() -> u64 {
 }
 
 // FILE, FILE ROW, or FILE ROW CHANNEL RESOURCE
-fn needs(count: usize) -> u64 {
+fn needs(rt: &impl Host, count: usize) -> u64 {
     if count == 5 {
-        return needs_row();
+        return needs_row(rt);
     }
     if count == 7 {
-        return needs_count();
+        return needs_count(rt);
     }
-    asking::one(Asked::Needs, count)
+    asking::one(rt, Asked::Needs, count)
 }
 
 // A command over files with a word for how each is named; or one of those below.
-fn run_named(word: &[u8], count: usize) -> u64 {
-    if check::same(word, b"sheet") {
-        return longer(Asked::Sheet, count);
+fn run_named(rt: &impl Host, word: &[u8], count: usize) -> u64 {
+    if word == b"sheet".as_slice() {
+        return longer(rt, Asked::Sheet, count);
     }
-    if check::same(word, b"sheet2") {
-        return longer(Asked::Sheet2, count);
+    if word == b"sheet2".as_slice() {
+        return longer(rt, Asked::Sheet2, count);
     }
-    if check::same(word, b"bytes") {
-        return longer(Asked::Bytes, count);
+    if word == b"bytes".as_slice() {
+        return longer(rt, Asked::Bytes, count);
     }
-    if check::same(word, b"verdict") {
-        return asking::answer_files(Asked::Verdict, named_mode(), 4, count);
+    if word == b"verdict".as_slice() {
+        return asking::answer_files(rt, Asked::Verdict, named_mode(rt), 4, count);
     }
-    run_over(word, count)
+    run_over(rt, word, count)
 }
 
 // Another command over files; or one of those below.
-fn run_over(word: &[u8], count: usize) -> u64 {
-    if check::same(word, b"check") {
-        return asking::answer_files(Asked::Check, Mode::Field, 3, count);
+fn run_over(rt: &impl Host, word: &[u8], count: usize) -> u64 {
+    if word == b"check".as_slice() {
+        return asking::answer_files(rt, Asked::Check, Mode::Field, 3, count);
     }
-    if check::same(word, b"show") {
-        return asking::answer_files(Asked::Sheet, Mode::Shown, 3, count);
+    if word == b"show".as_slice() {
+        return asking::answer_files(rt, Asked::Sheet, Mode::Shown, 3, count);
     }
-    if check::same(word, b"bytes-line") {
-        return asking::answer_files(Asked::BytesLine, Mode::Field, 3, count);
+    if word == b"bytes-line".as_slice() {
+        return asking::answer_files(rt, Asked::BytesLine, Mode::Field, 3, count);
     }
-    if check::same(word, b"bytes-sum") {
-        return sums::sum_files(3, count);
+    if word == b"bytes-sum".as_slice() {
+        return sums::sum_files(rt, 3, count);
     }
-    run_of(word, count)
+    run_of(rt, word, count)
 }
 
 // A command of one file; or one of those below.
-fn run_of(word: &[u8], count: usize) -> u64 {
-    if check::same(word, b"reorder") {
-        return asking::one(Asked::Moved, count);
+fn run_of(rt: &impl Host, word: &[u8], count: usize) -> u64 {
+    if word == b"reorder".as_slice() {
+        return asking::one(rt, Asked::Moved, count);
     }
-    if check::same(word, b"rows") {
-        return asking::one(Asked::Rows, count);
+    if word == b"rows".as_slice() {
+        return asking::one(rt, Asked::Rows, count);
     }
-    if check::same(word, b"title") {
-        return asking::one(Asked::Titles, count);
+    if word == b"title".as_slice() {
+        return asking::one(rt, Asked::Titles, count);
     }
-    if check::same(word, b"mend") {
-        return asking::one(Asked::MendLines, count);
+    if word == b"mend".as_slice() {
+        return asking::one(rt, Asked::MendLines, count);
     }
-    if check::same(word, b"runs") {
-        return runs::runs(count);
+    if word == b"runs".as_slice() {
+        return runs::runs(rt, count);
     }
-    run_about(word, count)
+    run_about(rt, word, count)
 }
 
 // A command about a part of a file; or one of those below.
-fn run_about(word: &[u8], count: usize) -> u64 {
-    if check::same(word, b"find") {
-        return finds(count);
+fn run_about(rt: &impl Host, word: &[u8], count: usize) -> u64 {
+    if word == b"find".as_slice() {
+        return finds(rt, count);
     }
-    if check::same(word, b"resolve") {
-        return resolves(count);
+    if word == b"resolve".as_slice() {
+        return resolves(rt, count);
     }
-    if check::same(word, b"needs") {
-        return needs(count);
+    if word == b"needs".as_slice() {
+        return needs(rt, count);
     }
-    if check::same(word, b"id3") {
-        return tags::tags(count);
+    if word == b"id3".as_slice() {
+        return tags::tags(rt, count);
     }
-    if check::same(word, b"id3-tag") {
-        return tags::own_tag(count);
+    if word == b"id3-tag".as_slice() {
+        return tags::own_tag(rt, count);
     }
-    run_out(word, count)
+    run_out(rt, word, count)
 }
 
 // A command that hands out a file; or one of those below.
-fn run_out(word: &[u8], count: usize) -> u64 {
-    if check::same(word, b"extract") {
-        return handouts::extract(count);
+fn run_out(rt: &impl Host, word: &[u8], count: usize) -> u64 {
+    if word == b"extract".as_slice() {
+        return handouts::extract(rt, count);
     }
-    if check::same(word, b"correct") {
-        return corrections::correct(count);
+    if word == b"correct".as_slice() {
+        return corrections::correct(rt, count);
     }
-    if check::same(word, b"mended") {
-        return handouts::mend(count);
+    if word == b"mended".as_slice() {
+        return handouts::mend(rt, count);
     }
-    run_beside(word, count)
+    run_beside(rt, word, count)
 }
 
 // A conversion, or a call on a shelf: of no file.
-fn run_beside(word: &[u8], count: usize) -> u64 {
-    if check::same(word, b"to-utf8") {
-        return handouts::convert(Asked::Utf8, count);
+fn run_beside(rt: &impl Host, word: &[u8], count: usize) -> u64 {
+    if word == b"to-utf8".as_slice() {
+        return handouts::convert(rt, Asked::Utf8, count);
     }
-    if check::same(word, b"to-utf16") {
-        return handouts::convert(Asked::Utf16, count);
+    if word == b"to-utf16".as_slice() {
+        return handouts::convert(rt, Asked::Utf16, count);
     }
-    if check::same(word, b"shelf") {
-        return shelves::run(count);
+    if word == b"shelf".as_slice() {
+        return shelves::run(rt, count);
     }
-    console::usage()
+    console::usage(rt)
 }
 
 // Runs the command that the second argument is; its words follow.
-fn run(count: usize) -> u64 {
+fn run(rt: &impl Host, count: usize) -> u64 {
     let mut word = io::buffer();
-    let n = os::arg(2, &mut word);
-    if os::errno() != 0 {
-        return console::usage();
+    match program::arg(rt, 2, &mut word) {
+        Ok(n) => run_named(rt, &word[..n], count),
+        Err(_) => console::usage(rt),
     }
-    run_named(&word[..n], count)
+}
+
+// Writes the status to the descriptor, which the caller opened, and whose file has a name while it is open.
+fn write_status(rt: &impl Files, fd: i32, status: u64) -> Result<()> {
+    let path = InlineText::<16>::of(format_args!("/dev/fd/{fd}"));
+    let mut file = OpenOptions::new().append(true).open(rt, path.as_str())?;
+    write!(file, "{status}")
 }
 
 // The first argument names the descriptor for the status.
-fn main() {
-    let fd = console::status_at(1);
+fn main(rt: HostRuntime) -> Result<()> {
+    let fd = console::status_at(&rt, 1);
     if fd < 0 {
-        console::usage();
-        return;
+        console::usage(&rt);
+        return Ok(());
     }
-    let status = run(os::arg_count());
-    io::print_decimal(fd, status);
+    let status = run(&rt, program::arg_count(&rt));
+    match fd {
+        1 => print!(rt; "{status}"),
+        2 => eprint!(rt; "{status}"),
+        _ => write_status(&rt, fd, status),
+    }
 }

@@ -1,5 +1,7 @@
 // The bytes of many files, summed by kind.
 use answers::Sums;
+use console::Host;
+use std::io::{Eprint, Print};
 
 // The sums so far, and the worst status of the files.
 #[derive(Clone, Copy)]
@@ -9,44 +11,39 @@ struct Summing {
 }
 
 // Adds the file that argument i names. A file that could not be read is none of the files.
-fn add(so: Summing, i: usize) -> Summing {
-    let before = so.sums;
+fn add(rt: &impl Host, so: Summing, i: usize) -> Summing {
     let mut file = program::file_buffer();
-    let got = storage::read_at(i, b"a file's name", &mut file);
-    if !got.right {
-        return Summing {
-            sums: before,
+    match storage::read_at(rt, i, b"a file's name", &mut file) {
+        Some(n) => Summing {
+            sums: answers::add_file(so.sums, &file[..n]),
+            status: so.status,
+        },
+        None => Summing {
+            sums: so.sums,
             status: 1,
-        };
-    }
-    let n = got.size;
-    let sums = answers::add_file(before, &file[..n]);
-    Summing {
-        sums,
-        status: so.status,
+        },
     }
 }
 
 // Writes the sums; answers the status.
-fn write_sums(so: Summing) -> u64 {
-    let sums = so.sums;
+fn write_sums(rt: &(impl Print + Eprint), so: Summing) -> u64 {
     let mut text = io::large_buffer();
-    let made = answers::make_sums(sums, &mut text);
+    let made = answers::make_sums(so.sums, &mut text);
     let n = made.size;
-    if !console::write(&text[..n]) {
+    if !console::write(rt, &text[..n]) {
         return 1;
     }
     asking::worse(so.status, made.status)
 }
 
 // Sums the files that the arguments from `first` on name.
-pub fn sum_files(first: usize, count: usize) -> u64 {
-    let sums = answers::no_sums();
-    let mut so = Summing { sums, status: 0 };
-    let mut i = first;
-    while i < count {
-        so = add(so, i);
-        i = i + 1;
+pub fn sum_files(rt: &impl Host, first: usize, count: usize) -> u64 {
+    let mut so = Summing {
+        sums: answers::no_sums(),
+        status: 0,
+    };
+    for i in first..count {
+        so = add(rt, so, i);
     }
-    write_sums(so)
+    write_sums(rt, so)
 }
