@@ -2,7 +2,7 @@
  * a header, two conversions of a text, the mover between the two editions of a sheet, and the shelf
  * that desks share.
  *
- * The functions are in target/staticlib/libcapi.a, which `rt staticlib capi` proves and writes;
+ * The functions are in target/staticlib/libcapi.a, which `tools/build.sh capi` proves and writes;
  * `./install` has them in libxmf.a and libxmf.so.0. They are for x86-64 Linux and need no other library.
  *
  * In short

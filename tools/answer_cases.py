@@ -7,7 +7,7 @@ the texts; what the reader refuses, the verdicts, the files with another title a
 written, all of this is compared with all of those cases that it can answer.
 
 Run it in the repository's folder: python3 tools/answer_cases.py. It fails, and writes nothing, where an answer of the other cases is not its own. Those stay
-as they are, in front. The program is then compared with what it wrote by `rt check cases`, which fails at a byte that differs, in stdin or in stdout.
+as they are, in front. The program is then compared with what it wrote by `rt ci cases`, which fails where a byte of stdout differs.
 """
 
 import functools

@@ -1,6 +1,6 @@
 #!/bin/sh
 # Compares two builds of the proved reader: tools/compare.sh BEFORE.a AFTER.a FILE..
-# Each archive is what `rt staticlib capi` writes at some commit. For each file and question the two take turns in one run; the median time of a call in
+# Each archive is the target/staticlib/libcapi.a that tools/build.sh capi makes at some commit. For each file and question the two take turns in one run; the median time of a call in
 # nanoseconds is printed, and the instructions of a call where there is valgrind, which do not depend on what else the machine does.
 # The files that are timed for docs/MEASURED.md: in rust/, cargo run --release --offline -p generate --example write_timed -- FOLDER
 set -eu

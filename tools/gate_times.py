@@ -1,10 +1,10 @@
 #!/usr/bin/env python3
-"""The gate's time by its parts: tools/gate_times.py LOG, where LOG is what `rt ci` printed.
+"""The gate's time by its parts: tools/gate_times.py LOG, where LOG is what `rt ci` of an older kit printed.
 
-`rt ci` prints the seconds that each crate and each must-fail edit took. It proves the crates level by level, two at a
-time, and then tries the edits, two at a time, and waits for both of a pair. This is done again here with those seconds,
+That `rt ci` printed the seconds that each crate and each must-fail edit took; today's prints none. It proved the crates level by level, two at a
+time, and then tried the edits, two at a time, and waited for both of a pair. This is done again here with those seconds,
 for all crates and then without those of the last request, of the last two, and so on: the gate's time before and after
-each. It prints the two tables of docs/LANDINGS.md, "Times"; with --seconds the lines of share/seconds.tsv.
+each. It prints the two tables of docs/LANDINGS.md, "Times". The log has to have all crates that crates.txt lists.
 """
 import re
 import sys
@@ -42,7 +42,7 @@ def levels():
     for line in (ROOT / "crates.txt").read_text(encoding="utf8").splitlines():
         name, colon, rest = line.partition("#")[0].partition(":")
         if colon:
-            needs[name.strip()] = rest.split()
+            needs[name.split()[0]] = rest.split()
 
     def visit(name):
         if name not in level:
@@ -72,15 +72,12 @@ def minutes(seconds):
 
 
 def main():
-    words = [w for w in sys.argv[1:] if w != "--seconds"]
+    words = sys.argv[1:]
     if len(words) != 1:
         sys.exit(__doc__)
     crates, edits = read(words[0])
     if not crates or not edits:
         sys.exit(f"{words[0]}: no crate or no edit was timed")
-    if "--seconds" in sys.argv:
-        print("".join(f"{c}\t{s}\n" for c, s in sorted(crates.items())), end="")
-        return
     level = levels()
     missing = [c for c in level if c not in crates]
     if missing:
