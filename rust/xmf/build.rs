@@ -8,17 +8,12 @@
 use std::env;
 use std::fs::{File, OpenOptions};
 use std::io::{BufRead, BufReader, Write};
-use std::path::Path;
+use std::path::{Path, PathBuf};
 use std::process::{Command, Stdio};
 
-/// What the archive is made from, and the archive.
-const PARTS: [&str; 5] = [
-    "crates.txt",
-    "crates",
-    "share/build.sh",
-    "tools/build.sh",
-    "target/staticlib/libcapi.a",
-];
+/// The archive, and what it is made from beside the crates.
+const ARCHIVE: &str = "target/staticlib/libcapi.a";
+const PARTS: [&str; 4] = ["crates.txt", "share/build.sh", "tools/build.sh", ARCHIVE];
 
 fn main() {
     let manifest = env::var_os("CARGO_MANIFEST_DIR").expect("cargo sets CARGO_MANIFEST_DIR");
@@ -27,12 +22,12 @@ fn main() {
     for variable in ["XMF_NO_PKG_CONFIG", "PKG_CONFIG_PATH", "PKG_CONFIG"] {
         println!("cargo::rerun-if-env-changed={variable}");
     }
-    let is_built = root.join(PARTS[4]).exists();
+    let is_built = root.join(ARCHIVE).exists();
     if !is_built && env::var_os("XMF_NO_PKG_CONFIG").is_none() {
         if let Some(folder) = installed() {
             println!("cargo::warning=the installed libxmf in {folder} is linked; with XMF_NO_PKG_CONFIG=1 the checkout's is built");
             // Once the checkout's archive is there, it is the one.
-            println!("cargo::rerun-if-changed={}", root.join(PARTS[4]).display());
+            println!("cargo::rerun-if-changed={}", root.join(ARCHIVE).display());
             link(&folder, "xmf");
             return;
         }
@@ -41,14 +36,32 @@ fn main() {
         println!("cargo::error=no libxmf is installed (pkg-config xmf), and this is no checkout that could build it");
         return;
     }
-    for part in PARTS {
-        println!("cargo::rerun-if-changed={}", root.join(part).display());
+    for part in PARTS
+        .map(|part| root.join(part))
+        .into_iter()
+        .chain(sources(&root))
+    {
+        println!("cargo::rerun-if-changed={}", part.display());
     }
     if let Err(reason) = build(&root) {
         // This line makes the build fail, with the message.
         println!("cargo::error={reason}");
     }
     link(&root.join("target/staticlib").display().to_string(), "capi");
+}
+
+/// The folders of the crates' code and definitions, without those of proofs and of what `rt` keeps.
+fn sources(root: &Path) -> Vec<PathBuf> {
+    let crates = root
+        .join("crates")
+        .read_dir()
+        .into_iter()
+        .flatten()
+        .flatten();
+    crates
+        .flat_map(|folder| ["src", "specs"].map(|part| folder.path().join(part)))
+        .filter(|part| part.exists())
+        .collect()
 }
 
 /// The folder of an installed `libxmf.a` of this version.
