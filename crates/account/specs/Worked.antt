@@ -2,7 +2,7 @@
 -- refused; and the totals.
 -- Assumes nothing.
 use Rattle.std.specs.Prelude.{◌≡◌, refl, List, [], ◌∷◌, ◌++◌, ℕ, take, replicate}
-use Rattle.machine.specs.Machine.{run, trace, rows_of, ◌>>=◌, ◌>>◌, if◌then◌else◌, place, skip, check, turns, many, times}
+use Rattle.machine.specs.Machine.{run, trace, rows_of, ◌>>=◌, ◌>>◌, when◌then◌else◌, place, skip, check, turns, many, times}
 use Rattle.cursor.specs.Leaves.{next, digits, number, block, manufacturer, guid}
 use Rattle.header.specs.Types.{format_of}
 use Rattle.header.specs.Header.{four, opening, edition, file_length, entry, types_table, extent, header}
@@ -74,5 +74,5 @@ cases : (given worked ≡ good (record { header = 21; nodes = 6; metadata = 17; 
     × (total_words (totals_left (after 0) (given worked)) ≡ 1 ∷ 0 ∷ 21 ∷ 6 ∷ 17 ∷ 4 ∷ 2 ∷ 2 ∷ 2 ∷ 2 ∷ 0 ∷ [])
     × (total_words (totals_left (after 1) (given (take 55 worked))) ≡ 2 ∷ 2 ∷ 0 ∷ 0 ∷ 0 ∷ 0 ∷ 0 ∷ 0 ∷ 0 ∷ 0 ∷ 0 ∷ [])
     × (total_words (totals_left (after 1000) (given worked)) ≡ 1000 ∷ 1000 ∷ 0 ∷ 0 ∷ 0 ∷ 0 ∷ 0 ∷ 0 ∷ 0 ∷ 0 ∷ 0 ∷ [])
-unfolding run trace rows_of ◌>>=◌ ◌>>◌ if◌then◌else◌ place skip check turns many times next digits number block manufacturer guid format_of four opening edition file_length entry types_table extent header field contents item_frame universal declared_format version rows_for item next_item meta_items metadata header_length head value identifier unpacker entries unpackers resource node_place uri_place target reference rest front folder node tree.tree starts_at offset_at is_missing logged outside part_end is_taken first_of first_taken detached_at follow_row follow tree.detached reading read_tree read_file ask is_hidden kind_at kinds_from places events_of kinds_of allowed totals_left padded fitting kept marks_of given kinds_in marks_in
+unfolding run trace rows_of ◌>>=◌ ◌>>◌ when◌then◌else◌ place skip check turns many times next digits number block manufacturer guid format_of four opening edition file_length entry types_table extent header field contents item_frame universal declared_format version rows_for item next_item meta_items metadata header_length head value identifier unpacker entries unpackers resource node_place uri_place target reference rest front folder node tree.tree starts_at offset_at is_missing logged outside part_end is_taken first_of first_taken detached_at follow_row follow tree.detached reading read_tree read_file ask is_hidden kind_at kinds_from places events_of kinds_of allowed totals_left padded fitting kept marks_of given kinds_in marks_in
 cases = (refl, refl, refl, refl, refl, refl, refl, refl, refl, refl, refl, refl, refl)

@@ -147,13 +147,7 @@ pub fn worse(a: u64, b: u64) -> u64
 }
 
 // Answers for the files that the arguments from `first` on name.
-pub fn answer_files(
-    rt: &impl Host,
-    asked: Asked,
-    mode: Mode,
-    first: usize,
-    count: usize,
-) -> u64 {
+pub fn answer_files(rt: &impl Host, asked: Asked, mode: Mode, first: usize, count: usize) -> u64 {
     let mut status = 0;
     for i in first..count {
         match answer_file(rt, asked, mode, b"", i) {

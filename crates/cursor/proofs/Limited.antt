@@ -10,7 +10,7 @@ use native.Mathlib.Omega.{arith}
 use borrow.Author.Tests.{ltb-true, ltb-false}
 use lib.Dec.{T, ltb}
 use lib.ListN.{get_or}
-use Rattle.machine.specs.Machine.{ret, refuse, here, byte, pass, Out, ok, refused, seen, passed, FirstAt, run, trace, ◌>>=◌, ◌>>◌, if◌then◌else◌, place, skip, check, turns, many, times}
+use Rattle.machine.specs.Machine.{ret, refuse, here, byte, pass, Out, ok, refused, seen, passed, FirstAt, run, trace, ◌>>=◌, ◌>>◌, when◌then◌else◌, place, skip, check, turns, many, times}
 use Rattle.cursor.specs.Rows.{Frame, Part, node_row, item_row, plain, P, Events}
 use Rattle.cursor.specs.Refusals.{no_row_left}
 use Rattle.cursor.proofs.Uses.{UsesOf, passing, NoRow, Rowless}
@@ -274,8 +274,8 @@ module _ {lim : Rows} where
     places w = asked w
 
     pub either : {Q : A → Rows → Type 0} {c : Rows} (b : Bool) {m n m' n' : P A} → Limited lim Q c m m' → Limited lim Q c n n' → Limited lim Q c
-        (if b then m else n) (if b then m' else n')
-    unfolding if◌then◌else◌
+        (when b then m else n) (when b then m' else n')
+    unfolding when◌then◌else◌
     either true x y = x
     either false x y = y
 

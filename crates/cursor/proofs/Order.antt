@@ -7,7 +7,7 @@ use mathlib.Core.List.{List, [], ◌∷◌, ◌++◌}
 use Prim.Native.Nat.{ℕ, zero, suc, ◌+◌, ◌-◌, ◌≤◌}
 use native.Mathlib.Omega.{arith}
 use lib.ListN.{get_or}
-use Rattle.machine.specs.Machine.{ret, refuse, here, byte, pass, ok, seen, passed, run, trace, ◌>>=◌, ◌>>◌, if◌then◌else◌, place, skip, check, turns, many, times}
+use Rattle.machine.specs.Machine.{ret, refuse, here, byte, pass, ok, seen, passed, run, trace, ◌>>=◌, ◌>>◌, when◌then◌else◌, place, skip, check, turns, many, times}
 use Rattle.cursor.specs.Rows.{Part, node_row, item_row, plain, P, Events}
 use Rattle.cursor.specs.declared.Node.{Node}
 use Rattle.cursor.specs.declared.Item.{Item}
@@ -107,8 +107,8 @@ module _ {A : Type 0} where
   pub at_place : {f : ℕ → P A} {R : A → ℕ → ℕ → Type 0} {k c : ℕ} → ((at : ℕ) → Orders (f at) R k c) → Orders (here f) R k c
   at_place w = record { orders = λ at. (w at).orders }
 
-  pub either : (b : Bool) {m n : P A} {R : A → ℕ → ℕ → Type 0} {k c : ℕ} → Orders m R k c → Orders n R k c → Orders (if b then m else n) R k c
-  unfolding if◌then◌else◌
+  pub either : (b : Bool) {m n : P A} {R : A → ℕ → ℕ → Type 0} {k c : ℕ} → Orders m R k c → Orders n R k c → Orders (when b then m else n) R k c
+  unfolding when◌then◌else◌
   either true h k = h
   either false h k = k
 

@@ -7,7 +7,7 @@ use Prim.Native.Nat.{ℕ, zero, suc, ◌+◌, ◌-◌}
 use native.Mathlib.Omega.{arith}
 use lib.Dec.{ltb}
 use lib.ListN.{get_or}
-use Rattle.machine.specs.Machine.{ret, refuse, here, byte, pass, Out, ok, refused, run, exec, ◌>>=◌, ◌>>◌, if◌then◌else◌, place, skip, check, turns, many, times}
+use Rattle.machine.specs.Machine.{ret, refuse, here, byte, pass, Out, ok, refused, run, exec, ◌>>=◌, ◌>>◌, when◌then◌else◌, place, skip, check, turns, many, times}
 use Rattle.cursor.specs.Rows.{Part, P}
 use Rattle.cursor.proofs.Quiet.{Quiet, still}
 
@@ -49,8 +49,8 @@ module _ {A S : Type 0} {put : Part → ℕ → ℕ → S → S} {f : List ℕ} 
   post_refuse = record { post = tt }
 
   pub post_if : {b : Bool} {m n : P A} {R : A → ℕ → S → Type 0} {at : ℕ} {σ : S} → (b ≡ true → Post put f m R at σ) →
-      (b ≡ false → Post put f n R at σ) → Post put f (if b then m else n) R at σ
-  unfolding if◌then◌else◌
+      (b ≡ false → Post put f n R at σ) → Post put f (when b then m else n) R at σ
+  unfolding when◌then◌else◌
   post_if {b = true} h k = h refl
   post_if {b = false} h k = k refl
 

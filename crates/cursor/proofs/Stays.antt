@@ -8,7 +8,7 @@ use native.Mathlib.Omega.{arith}
 use lib.Dec.{ltb}
 use lib.ListN.{length}
 use borrow.Author.Tests.{ltb-true}
-use Rattle.machine.specs.Machine.{ret, refuse, here, byte, Out, ok, refused, run, ◌>>=◌, ◌>>◌, if◌then◌else◌, place, skip, check, turns, many, times}
+use Rattle.machine.specs.Machine.{ret, refuse, here, byte, Out, ok, refused, run, ◌>>=◌, ◌>>◌, when◌then◌else◌, place, skip, check, turns, many, times}
 use Rattle.cursor.specs.Rows.{Frame, Part, P}
 use Rattle.cursor.specs.Leaves.{next, digits, number, block, manufacturer, guid}
 use Rattle.machine.proofs.Laws.{and_then, run_bind}
@@ -52,8 +52,8 @@ module _ {A : Type 0} {f : List ℕ} where
   check-at {b = true} n p l h = record { inside = (h refl).inside }
   check-at {b = false} n p l h = record { inside = l }
 
-  pub either_at : (b : Bool) {m n : P A} {at : ℕ} → StaysAt f m at → StaysAt f n at → StaysAt f (if b then m else n) at
-  unfolding if◌then◌else◌
+  pub either_at : (b : Bool) {m n : P A} {at : ℕ} → StaysAt f m at → StaysAt f n at → StaysAt f (when b then m else n) at
+  unfolding when◌then◌else◌
   either_at true h k = h
   either_at false h k = k
 
@@ -88,7 +88,7 @@ module _ {A : Type 0} {f : List ℕ} where
   pub places : {g : ℕ → P A} → ((p : ℕ) → p ≤ length f → Stays f (g p)) → Stays f (place >>= g)
   places h = record { from = λ at l. place_at _ at ((h at l).from at l) }
 
-  pub either : (b : Bool) {m n : P A} → Stays f m → Stays f n → Stays f (if b then m else n)
+  pub either : (b : Bool) {m n : P A} → Stays f m → Stays f n → Stays f (when b then m else n)
   either b h k = record { from = λ at l. either_at b (h.from at l) (k.from at l) }
 
   pub checks : {b : Bool} (n p : ℕ) {m : P A} → p ≤ length f → (b ≡ true → Stays f m) → Stays f (check b n p >> m)
@@ -118,10 +118,10 @@ checked false n p l = stops l
 
 module _ {f : List ℕ} (κ : Frame) (past end : ℕ) (o : end ≤ length f) where
   pub next-stays : (p : ℕ) → p ≤ length f → Stays f (next κ past end p)
-  unfolding run if◌then◌else◌ next
+  unfolding run when◌then◌else◌ next
   next-stays p l = at_place λ at k. by (ltb at end) at refl
     where
-      by : (b : Bool) (at : ℕ) → ltb at end ≡ b → StaysAt f (if b then byte κ ret else refuse past p) at
+      by : (b : Bool) (at : ℕ) → ltb at end ≡ b → StaysAt f (when b then byte κ ret else refuse past p) at
       by true at e = record { inside = let z = ltb-true at end e in omega arith }
       by false at e = record { inside = l }
 

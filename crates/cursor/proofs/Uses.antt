@@ -8,7 +8,7 @@ use Prim.Native.Nat.{ℕ, zero, suc, ◌+◌, ◌-◌}
 use native.Mathlib.Omega.{arith}
 use lib.Dec.{T}
 use lib.ListN.{get_or}
-use Rattle.machine.specs.Machine.{ret, refuse, here, byte, pass, refused, seen, passed, run, trace, ◌>>=◌, ◌>>◌, if◌then◌else◌, place, skip, check, turns, many, times}
+use Rattle.machine.specs.Machine.{ret, refuse, here, byte, pass, refused, seen, passed, run, trace, ◌>>=◌, ◌>>◌, when◌then◌else◌, place, skip, check, turns, many, times}
 use Rattle.cursor.specs.Rows.{Frame, Part, node_row, item_row, plain, P, Events}
 use Rattle.cursor.specs.Refusals.{cut_short, of_reader, is_allowed}
 use Rattle.cursor.specs.Leaves.{next, digits, number, block, manufacturer, guid}
@@ -114,8 +114,8 @@ module _ {A : Type 0} {S : Allowed} where
   pub at_place : {k : ℕ → P A} → ((at : ℕ) → Uses S (k at)) → Uses S (here k)
   at_place h = record { uses = λ at. (h at).uses }
 
-  pub either : (b : Bool) {m n : P A} → Uses S m → Uses S n → Uses S (if b then m else n)
-  unfolding if◌then◌else◌
+  pub either : (b : Bool) {m n : P A} → Uses S m → Uses S n → Uses S (when b then m else n)
+  unfolding when◌then◌else◌
   either true h k = h
   either false h k = k
 

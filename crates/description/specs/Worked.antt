@@ -1,7 +1,7 @@
 -- Descriptions computed in one test: the example of document 002, section 10.4, with all its counts; every kind; and what is refused, where.
 -- Assumes nothing.
 use Rattle.std.specs.Prelude.{◌≡◌, refl, List, [], ◌∷◌, ◌++◌, ℕ, length, take}
-use Rattle.machine.specs.Machine.{run, ◌>>=◌, ◌>>◌, if◌then◌else◌, place, check, times}
+use Rattle.machine.specs.Machine.{run, ◌>>=◌, ◌>>◌, when◌then◌else◌, place, check, times}
 use Rattle.cursor.specs.Leaves.{next, digits, number, manufacturer}
 use Rattle.file.specs.Asking.{Result, good, bad}
 use Rattle.description.specs.Description.{value, a_byte, guid, identifier, resource, numbers, lists, table, description}
@@ -63,5 +63,5 @@ cases : (count example 0 0 ≡ good 2)
     × (count (0x00 ∷ 0x00 ∷ 0xFF ∷ 0xFF ∷ 0xFF ∷ 0x7F ∷ 0x00 ∷ 0x00 ∷ []) 0 0 ≡ bad 25 8)
     × (count (0x00 ∷ 0x00 ∷ 0x01 ∷ 0x00 ∷ 0x00 ∷ 0x00 ∷ []) 0 0 ≡ bad 23 0)
     × (count [] 0 0 ≡ bad 25 0)
-unfolding run ◌>>=◌ ◌>>◌ if◌then◌else◌ place check times next digits number manufacturer value a_byte guid identifier resource numbers lists table description count_at count_of count
+unfolding run ◌>>=◌ ◌>>◌ when◌then◌else◌ place check times next digits number manufacturer value a_byte guid identifier resource numbers lists table description count_at count_of count
 cases = (refl, refl, refl, refl, refl, refl, refl, refl, refl, refl, refl, refl, refl, refl, refl, refl, refl, refl, refl, refl, refl, refl, refl, refl, refl, refl, refl, refl, refl, refl, refl)

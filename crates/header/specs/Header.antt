@@ -2,7 +2,7 @@
 -- `size` is the number of bytes lent; they are the part that holds the header's fields.
 -- Assumes nothing.
 use Rattle.std.specs.Prelude.{List, [], ◌∷◌, ◌++◌, ℕ, ◌+◌, ◌*◌, ◌^◌, ltb, leb, eqb, length}
-use Rattle.machine.specs.Machine.{ret, refuse, ◌>>=◌, ◌>>◌, if◌then◌else◌, place, skip, check, times}
+use Rattle.machine.specs.Machine.{ret, refuse, ◌>>=◌, ◌>>◌, when◌then◌else◌, place, skip, check, times}
 use Rattle.cursor.specs.Rows.{P, file_frame, plain, language}
 use Rattle.cursor.specs.Refusals.{not_xmf, bad_version, cut_short, wrong_length, bad_type, bad_tree, bytes_left, too_large}
 use Rattle.cursor.specs.Leaves.{next, number, block}
@@ -26,7 +26,7 @@ opening size = do
   magic ← four not_xmf size
   check (eqb magic 0x584D465F) not_xmf 0
   version ← four bad_version size
-  if eqb version 0x312E3030 then ret 100 else if eqb version 0x312E3031 then ret 101 else if eqb version 0x322E3030 then ret 200 else refuse bad_version 4
+  when eqb version 0x312E3030 then ret 100 else when eqb version 0x312E3031 then ret 101 else when eqb version 0x322E3030 then ret 200 else refuse bad_version 4
 
 -- the file's type and its revision, which 2.00 has
 pub record Edition : Type 0 where
@@ -35,7 +35,7 @@ pub record Edition : Type 0 where
 
 unfoldable pub edition : (size version : ℕ) → P Edition
 edition size version =
-    if eqb version 200
+    when eqb version 200
     then (do
       t ← four cut_short size
       r ← four cut_short size

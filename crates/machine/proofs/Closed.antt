@@ -4,7 +4,7 @@
 use mathlib.Core.Bool.{Bool, true, false}
 use Prim.Native.Nat.{ℕ, zero, suc, ◌-◌}
 use lib.Dec.{ltb}
-use Rattle.machine.specs.Machine.{Prog, ret, refuse, here, ◌>>=◌, ◌>>◌, if◌then◌else◌, place, check, turns, many, times}
+use Rattle.machine.specs.Machine.{Prog, ret, refuse, here, ◌>>=◌, ◌>>◌, when◌then◌else◌, place, check, turns, many, times}
 
 pub record Closed {K W : Type 0} (Q : (A : Type 0) → Prog K W A → Type 0) : Type 1 where
   pub ends : {A : Type 0} {a : A} → Q A (ret a)
@@ -12,8 +12,8 @@ pub record Closed {K W : Type 0} (Q : (A : Type 0) → Prog K W A → Type 0) : 
   pub after : {A B : Type 0} {m : Prog K W A} {g : A → Prog K W B} → Q A m → ((a : A) → Q B (g a)) → Q B (m >>= g)
 
 module _ {K W : Type 0} {Q : (A : Type 0) → Prog K W A → Type 0} (c : Closed Q) {A : Type 0} where
-  pub either : (b : Bool) {m n : Prog K W A} → Q A m → Q A n → Q A (if b then m else n)
-  unfolding if◌then◌else◌
+  pub either : (b : Bool) {m n : Prog K W A} → Q A m → Q A n → Q A (when b then m else n)
+  unfolding when◌then◌else◌
   either true h k = h
   either false h k = k
 

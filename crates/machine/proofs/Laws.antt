@@ -8,7 +8,7 @@ use Prim.Native.Nat.{ℕ, zero, suc, ◌+◌, ◌-◌, ◌≤◌, ◌<◌}
 use native.Mathlib.Omega.{arith}
 use lib.ListN.{get_or}
 use borrow.Author.Tests.{lt-ltb, le-ltb}
-use Rattle.machine.specs.Machine.{Prog, ret, refuse, here, byte, pass, Out, ok, refused, Event, seen, passed, run, trace, exec, puts, rows_of, ◌>>=◌, ◌>>◌, if◌then◌else◌, place, skip, check, turns, many, times}
+use Rattle.machine.specs.Machine.{Prog, ret, refuse, here, byte, pass, Out, ok, refused, Event, seen, passed, run, trace, exec, puts, rows_of, ◌>>=◌, ◌>>◌, when◌then◌else◌, place, skip, check, turns, many, times}
 
 -- what a call answered, where its contract says `told r ≡ o` and r is known
 pub was : {E O : Type 0} (told : E → O) {r r' : E} {o : O} → told r ≡ o → r ≡ r' → o ≡ told r'
@@ -47,12 +47,12 @@ pub then_is : (K W A B : Type 0) (m : Prog K W A) (n : Prog K W B) → (m >> n) 
 unfolding ◌>>◌
 then_is K W A B m n = refl
 
-pub if_true : (K W A : Type 0) (m n : Prog K W A) → (if true then m else n) ≡ m
-unfolding if◌then◌else◌
+pub if_true : (K W A : Type 0) (m n : Prog K W A) → (when true then m else n) ≡ m
+unfolding when◌then◌else◌
 if_true K W A m n = refl
 
-pub if_false : (K W A : Type 0) (m n : Prog K W A) → (if false then m else n) ≡ n
-unfolding if◌then◌else◌
+pub if_false : (K W A : Type 0) (m n : Prog K W A) → (when false then m else n) ≡ n
+unfolding when◌then◌else◌
 if_false K W A m n = refl
 
 module _ (K W A : Type 0) (f : List ℕ) (at : ℕ) where

@@ -9,7 +9,7 @@ use native.Mathlib.Omega.{arith}
 use lib.Dec.{ltb}
 use lib.ListN.{get_or}
 use borrow.Author.Tests.{ltb-true}
-use Rattle.machine.specs.Machine.{Prog, ret, here, byte, Out, ok, refused, run, ◌>>=◌, ◌>>◌, if◌then◌else◌, place, skip, check, turns, many}
+use Rattle.machine.specs.Machine.{Prog, ret, here, byte, Out, ok, refused, run, ◌>>=◌, ◌>>◌, when◌then◌else◌, place, skip, check, turns, many}
 use Rattle.machine.proofs.Laws.{and_then, run_bind}
 
 abbrev pub Holds : {A : Type 0} → (F : ℕ → ℕ → Type 0) → (R : A → ℕ → Type 0) → Out A → Type 0
@@ -66,8 +66,8 @@ module _ {K W A : Type 0} {F : ℕ → ℕ → Type 0} where
   unfolding run ◌>>=◌ place
   places g at h = record { holds = λ f. h.holds f }
 
-  pub either : {b : Bool} {m n : Prog K W A} {R : A → ℕ → Type 0} {at : ℕ} → (b ≡ true → Triple F m R at) → (b ≡ false → Triple F n R at) → Triple F (if b then m else n) R at
-  unfolding if◌then◌else◌
+  pub either : {b : Bool} {m n : Prog K W A} {R : A → ℕ → Type 0} {at : ℕ} → (b ≡ true → Triple F m R at) → (b ≡ false → Triple F n R at) → Triple F (when b then m else n) R at
+  unfolding when◌then◌else◌
   either {b = true} h k = h refl
   either {b = false} h k = k refl
 

@@ -8,7 +8,7 @@ use native.Mathlib.Omega.{arith}
 use lib.Dec.{ltb}
 use lib.ListN.{get_or}
 use borrow.Author.Tests.{ltb-true}
-use Rattle.machine.specs.Machine.{Prog, ret, refuse, here, byte, pass, run, ◌>>=◌, ◌>>◌, if◌then◌else◌, place, check, times}
+use Rattle.machine.specs.Machine.{Prog, ret, refuse, here, byte, pass, run, ◌>>=◌, ◌>>◌, when◌then◌else◌, place, check, times}
 use Rattle.machine.proofs.Agree.{AgreeUpTo}
 use Rattle.machine.proofs.Closed.{Closed}
 use Rattle.machine.proofs.Closed as closed
@@ -63,7 +63,7 @@ module _ {K W A : Type 0} {end : ℕ} where
   pub after : {B : Type 0} {m : Prog K W A} {g : A → Prog K W B} → Within end m → ((a : A) → Within end (g a)) → Within end (m >>= g)
   after w h = (within-closed end).after w h
 
-  pub either : (b : Bool) {m n : Prog K W A} → Within end m → Within end n → Within end (if b then m else n)
+  pub either : (b : Bool) {m n : Prog K W A} → Within end m → Within end n → Within end (when b then m else n)
   either b h k = closed.either (within-closed end) b h k
 
   pub checks : (b : Bool) (n p : ℕ) {m : Prog K W A} → Within end m → Within end (check b n p >> m)
@@ -77,10 +77,10 @@ module _ {K W A : Type 0} {end : ℕ} where
 
 -- a byte that is read where its place lies before the end
 module _ {K : Type 0} (W : Type 0) (κ : K) (end : ℕ) where
-  guarded : (b : Bool) (past p at : ℕ) → ltb at end ≡ b → WithinOf {K = K} {W = W} end (if b then byte κ ret else refuse past p) at
-  unfolding if◌then◌else◌
+  guarded : (b : Bool) (past p at : ℕ) → ltb at end ≡ b → WithinOf {K = K} {W = W} end (when b then byte κ ret else refuse past p) at
+  unfolding when◌then◌else◌
   guarded true past p at e = (ltb-true at end e, λ b. tt)
   guarded false past p at e = tt
 
-  pub reads : (past p : ℕ) → Within {K = K} {W = W} end (here λ at. if ltb at end then byte κ ret else refuse past p)
+  pub reads : (past p : ℕ) → Within {K = K} {W = W} end (here λ at. when ltb at end then byte κ ret else refuse past p)
   reads past p = record { within = λ at. guarded (ltb at end) past p at refl }

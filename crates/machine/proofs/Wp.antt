@@ -8,7 +8,7 @@ use native.Mathlib.Omega.{arith}
 use borrow.Author.Tests.{ltb-true, ltb-false}
 use lib.Dec.{ltb}
 use lib.ListN.{get_or}
-use Rattle.machine.specs.Machine.{Prog, ret, refuse, here, byte, pass, Out, ok, refused, Event, seen, passed, run, trace, ◌>>=◌, ◌>>◌, if◌then◌else◌, place, skip, check, turns, many, times}
+use Rattle.machine.specs.Machine.{Prog, ret, refuse, here, byte, pass, Out, ok, refused, Event, seen, passed, run, trace, ◌>>=◌, ◌>>◌, when◌then◌else◌, place, skip, check, turns, many, times}
 
 -- what has to be shown of bytes that are passed, and what may be used of them: what is passed, its place and size
 pub record Rule (W : Type 0) : Type 1 where
@@ -116,8 +116,8 @@ module _ {K W A : Type 0} where
   wp_byte w = record { wp = λ b. (w b).wp }
 
   pub wp_if : {U : Rule W} {b : Bool} {m n : Prog K W A} {R : A → ℕ → Type 0} {at : ℕ}
-      → (b ≡ true → Wp U m R at) → (b ≡ false → Wp U n R at) → Wp U (if b then m else n) R at
-  unfolding if◌then◌else◌
+      → (b ≡ true → Wp U m R at) → (b ≡ false → Wp U n R at) → Wp U (when b then m else n) R at
+  unfolding when◌then◌else◌
   wp_if {b = true} h k = h refl
   wp_if {b = false} h k = k refl
 

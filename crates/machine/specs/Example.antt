@@ -1,7 +1,7 @@
 -- A worked example: entries to the file's end, each a byte that counts the bytes behind it, which are passed over and not read. Refusal 1, at the entry: it runs past the end.
 -- Assumes nothing.
 use Rattle.std.specs.Prelude.{◌≡◌, refl, List, [], ◌∷◌, ℕ, suc, ◌+◌, leb, length}
-use Rattle.machine.specs.Machine.{Prog, ret, byte, Out, ok, refused, seen, passed, run, trace, ◌>>=◌, ◌>>◌, if◌then◌else◌, place, skip, check, turns, many}
+use Rattle.machine.specs.Machine.{Prog, ret, byte, Out, ok, refused, seen, passed, run, trace, ◌>>=◌, ◌>>◌, when◌then◌else◌, place, skip, check, turns, many}
 
 -- what is read, and what is passed over
 pub data Read : Type 0 where
@@ -27,5 +27,5 @@ entries_of f = run (many (length f) (entry (length f)) 0) f 0
 cases : (entries_of (2 ∷ 7 ∷ 7 ∷ 0 ∷ 1 ∷ 7 ∷ []) ≡ ok 3 6)
     × (entries_of (2 ∷ 7 ∷ 7 ∷ 2 ∷ 7 ∷ []) ≡ refused 1 3)
     × (trace (many 3 (entry 3) 0) (1 ∷ 7 ∷ 0 ∷ []) 0 ≡ seen count 0 ∷ passed contents 1 1 ∷ seen count 2 ∷ passed contents 3 0 ∷ [])
-unfolding run trace ◌>>=◌ ◌>>◌ if◌then◌else◌ place skip check turns many entry entries_of
+unfolding run trace ◌>>=◌ ◌>>◌ when◌then◌else◌ place skip check turns many entry entries_of
 cases = (refl, refl, refl)

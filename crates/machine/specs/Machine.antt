@@ -79,9 +79,9 @@ unfoldable pub ◌>>◌ : {K W A B : Type 0} → Prog K W A → Prog K W B → P
 m >> n = m >>= λ _. n
 
 -- the library's conditional, of programs: it has a name of its own so that a law finds the two programs by it
-infixr 2 if◌then◌else◌
-unfoldable pub if◌then◌else◌ : {K W A : Type 0} → Bool → Prog K W A → Prog K W A → Prog K W A
-if b then m else n = cond b m n
+infixr 2 when◌then◌else◌
+unfoldable pub when◌then◌else◌ : {K W A : Type 0} → Bool → Prog K W A → Prog K W A → Prog K W A
+when b then m else n = cond b m n
 
 -- the cursor's place
 unfoldable pub place : {K W : Type 0} → Prog K W ℕ
@@ -99,7 +99,7 @@ check false n p = refuse n p
 -- `body` again and again until the cursor is at `end`; each turn moves the cursor, so `end - at` turns are enough
 unfoldable pub turns : {K W S : Type 0} → ℕ → ℕ → (S → Prog K W S) → S → Prog K W S
 turns zero end body s = ret s
-turns (suc k) end body s = here λ at. if ltb at end then (body s >>= turns k end body) else ret s
+turns (suc k) end body s = here λ at. when ltb at end then (body s >>= turns k end body) else ret s
 
 unfoldable pub many : {K W S : Type 0} → ℕ → (S → Prog K W S) → S → Prog K W S
 many end body s = here λ at. turns (end - at) end body s

@@ -2,7 +2,7 @@
 -- their bytes cannot hold; and the refusals' order.
 -- Assumes nothing.
 use Rattle.std.specs.Prelude.{◌≡◌, refl, List, [], ◌∷◌, ◌++◌, ℕ, length, take, replicate}
-use Rattle.machine.specs.Machine.{run, trace, rows_of, ◌>>=◌, ◌>>◌, if◌then◌else◌, place, skip, check, turns, many, times}
+use Rattle.machine.specs.Machine.{run, trace, rows_of, ◌>>=◌, ◌>>◌, when◌then◌else◌, place, skip, check, turns, many, times}
 use Rattle.cursor.specs.Leaves.{next, digits, number, block, manufacturer, guid}
 use Rattle.vlq.specs.Vlq as vlq
 use Rattle.header.specs.Types.{format_of}
@@ -69,5 +69,5 @@ cases : (given 56 (worked (56 ∷ []) (55 ∷ [])) ≡ good (record { copy = wor
     × (given 27 (wide (0x80 ∷ 0x1B ∷ []) (0xFF ∷ 0xFF ∷ 0xFF ∷ 0xFF ∷ [])) ≡ bad 4 13)
     × (given 200 (narrow 127 22 104) ≡ good (record { copy = narrow 127 22 104; lines = [] }))
     × (given 200 (narrow 127 22 105) ≡ bad 5 8)
-unfolding run trace rows_of ◌>>=◌ ◌>>◌ if◌then◌else◌ place skip check turns many times next digits number block manufacturer guid format_of four opening edition file_length entry types_table extent header field contents item_frame universal declared_format version rows_for item next_item meta_items metadata header_length head value identifier unpacker entries unpackers resource node_place uri_place target reference rest front folder node tree.tree tree.detached starts_at offset_at is_missing logged outside part_end is_taken first_of first_taken detached_at follow_row follow reading read_tree read_file ask vlq.in_bytes decimal.digits decimal.decimal number_field fields with_field set_to number_at last_of set_right mended tabbed line both_lines lines_of changes fitting mend given
+unfolding run trace rows_of ◌>>=◌ ◌>>◌ when◌then◌else◌ place skip check turns many times next digits number block manufacturer guid format_of four opening edition file_length entry types_table extent header field contents item_frame universal declared_format version rows_for item next_item meta_items metadata header_length head value identifier unpacker entries unpackers resource node_place uri_place target reference rest front folder node tree.tree tree.detached starts_at offset_at is_missing logged outside part_end is_taken first_of first_taken detached_at follow_row follow reading read_tree read_file ask vlq.in_bytes decimal.digits decimal.decimal number_field fields with_field set_to number_at last_of set_right mended tabbed line both_lines lines_of changes fitting mend given
 cases = (refl, refl, refl, refl, refl, refl, refl, refl, refl, refl, refl, refl, refl, refl, refl, refl, refl, refl)

@@ -1,7 +1,7 @@
 -- Metadata (01, Nodes): a length, then items; of each item its field, its contents, and a row for each universal content or version.
 -- Assumes nothing.
 use Rattle.std.specs.Prelude.{List, ℕ, ◌+◌, ◌-◌, ltb, eqb}
-use Rattle.machine.specs.Machine.{ret, refuse, ◌>>=◌, ◌>>◌, if◌then◌else◌, place, skip, check, many, times}
+use Rattle.machine.specs.Machine.{ret, refuse, ◌>>=◌, ◌>>◌, when◌then◌else◌, place, skip, check, many, times}
 use Rattle.cursor.specs.Rows.{P, meta_frame, item_row, plain, name}
 use Rattle.cursor.specs.Refusals.{cut_short, bad_node, no_row_left, bad_contents}
 use Rattle.cursor.specs.Leaves.{number, block}
@@ -30,7 +30,7 @@ pub record Context : Type 0 where
 unfoldable pub field : ℕ → P Field
 field end = do
   n ← block meta_frame cut_short end
-  if eqb n 0
+  when eqb n 0
       then (do
         k ← number meta_frame cut_short end
         ret (Standard k))
@@ -43,7 +43,7 @@ field end = do
 unfoldable pub contents : ℕ → P Contents
 contents end = do
   n ← number meta_frame cut_short end
-  if eqb n 0 then ret Universal else ret (Versions n)
+  when eqb n 0 then ret Universal else ret (Versions n)
 
 unfoldable pub item_frame : ℕ → P MetaItem
 item_frame end = do

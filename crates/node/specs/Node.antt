@@ -1,7 +1,7 @@
 -- A node up to its contents (01, Nodes): its three numbers, metadata, unpackers, reference.
 -- Assumes nothing.
 use Rattle.std.specs.Prelude.{◌||◌, ℕ, ◌+◌, ◌-◌, ltb, leb, eqb}
-use Rattle.machine.specs.Machine.{ret, ◌>>=◌, ◌>>◌, if◌then◌else◌, place, skip, check, many}
+use Rattle.machine.specs.Machine.{ret, ◌>>=◌, ◌>>◌, when◌then◌else◌, place, skip, check, many}
 use Rattle.cursor.specs.Rows.{P, node_frame, unpack_frame, reference_frame, plain, uri}
 use Rattle.cursor.specs.Refusals.{cut_short, bad_node, bad_unpacker, bad_reference, bad_folder, bytes_left, bad_target, bad_detached}
 use Rattle.cursor.specs.Leaves.{number, block, manufacturer, guid}
@@ -57,8 +57,8 @@ value end = do
 -- what names an unpacker, by its kind: 0 and 2 a VLQ, 1 a manufacturer and a VLQ, 3 a GUID
 unfoldable pub identifier : (kind end : ℕ) → P (Unit {0})
 identifier kind end =
-    if eqb kind 3 then guid unpack_frame end
-    else if eqb kind 1
+    when eqb kind 3 then guid unpack_frame end
+    else when eqb kind 1
     then (do
       m ← manufacturer unpack_frame end
       value end)
@@ -118,11 +118,11 @@ uri_place end = do
 -- 1: the contents follow, to the node's end
 unfoldable pub target : (header_end size reference end : ℕ) → P Reference
 target header_end size r end =
-    if eqb r 1
+    when eqb r 1
     then (do
       q ← place
       ret (record { kind = r; target = q; extent = end - q }))
-    else if eqb r 2 then resource header_end size end else if eqb r 3 then node_place end else uri_place end
+    else when eqb r 2 then resource header_end size end else when eqb r 3 then node_place end else uri_place end
 
 -- ReferenceTypeID and its target; a folder uses reference 1
 unfoldable pub reference : (header_end size contained end : ℕ) → P Reference

@@ -1,7 +1,7 @@
 -- The correction of a title, computed: what the call leaves of the worked file, and on a refusal.
 -- Assumes nothing.
 use Rattle.std.specs.Prelude.{◌≡◌, refl, List, [], ◌∷◌, ◌++◌, ℕ, drop, replicate, take}
-use Rattle.machine.specs.Machine.{run, trace, rows_of, ◌>>=◌, ◌>>◌, if◌then◌else◌, place, skip, check, turns, many, times}
+use Rattle.machine.specs.Machine.{run, trace, rows_of, ◌>>=◌, ◌>>◌, when◌then◌else◌, place, skip, check, turns, many, times}
 use Rattle.cursor.specs.Leaves.{next, digits, number, block, manufacturer, guid}
 use Rattle.vlq.specs.Vlq as vlq
 use Rattle.header.specs.Types.{format_of}
@@ -42,5 +42,5 @@ cases : (outcome (correct_title 0 hello) (27 ∷ 31 ∷ 60 ∷ []) worked
     })
     × (outcome (correct_title 0 hello) (26 ∷ 30 ∷ 58 ∷ []) worked ≡ record { answer = 22 ∷ 0 ∷ []; holds = replicate 26 0 ∷ replicate 30 0 ∷ replicate 58 0 ∷ [] })
     × (outcome (correct_title 1 hello) (26 ∷ 30 ∷ 60 ∷ []) worked ≡ record { answer = 37 ∷ 0 ∷ []; holds = replicate 26 0 ∷ replicate 30 0 ∷ replicate 60 0 ∷ [] })
-unfolding run trace rows_of ◌>>=◌ ◌>>◌ if◌then◌else◌ place skip check turns many times next digits number block manufacturer guid format_of four opening edition file_length entry types_table extent header field contents item_frame universal declared_format version rows_for item next_item meta_items metadata header_length head value identifier unpacker entries unpackers resource node_place uri_place target reference rest front folder node tree.tree tree.detached logged starts_at offset_at is_missing outside part_end is_taken first_of first_taken detached_at follow_row follow reading read_tree read_file node_table item_table ask is_hidden vlq.in_bytes vlq.from vlq.least vlq.vlq vlq.sized described.content described.copied described.identifier_text described.unpacker_text described.entry_text described.table_text described.shape described.described described.titled described.titled_at described.retitled text.further text.field_text text.item_text text.universal_text text.version_text text.content_text text.items_text text.header_bytes text.header_size text.length_bytes text.header_of text.framed text.own_text text.node_text text.whole_text text.outer text.last_bytes text.start_bytes text.start_at text.file_bytes text.tree_start text.assembled text.file_of text.file_text title.elsewhere title.is_no_title title.titled_file title.fitting title.correct_title room.padded room.counted room.kept reads leaves outcome
+unfolding run trace rows_of ◌>>=◌ ◌>>◌ when◌then◌else◌ place skip check turns many times next digits number block manufacturer guid format_of four opening edition file_length entry types_table extent header field contents item_frame universal declared_format version rows_for item next_item meta_items metadata header_length head value identifier unpacker entries unpackers resource node_place uri_place target reference rest front folder node tree.tree tree.detached logged starts_at offset_at is_missing outside part_end is_taken first_of first_taken detached_at follow_row follow reading read_tree read_file node_table item_table ask is_hidden vlq.in_bytes vlq.from vlq.least vlq.vlq vlq.sized described.content described.copied described.identifier_text described.unpacker_text described.entry_text described.table_text described.shape described.described described.titled described.titled_at described.retitled text.further text.field_text text.item_text text.universal_text text.version_text text.content_text text.items_text text.header_bytes text.header_size text.length_bytes text.header_of text.framed text.own_text text.node_text text.whole_text text.outer text.last_bytes text.start_bytes text.start_at text.file_bytes text.tree_start text.assembled text.file_of text.file_text title.elsewhere title.is_no_title title.titled_file title.fitting title.correct_title room.padded room.counted room.kept reads leaves outcome
 cases = (refl, refl, refl)

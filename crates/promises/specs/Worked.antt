@@ -1,7 +1,7 @@
 -- The cases of document 01, 'On both sides', and others, computed in one test: whole files, and the questions themselves.
 -- Assumes nothing.
 use Rattle.std.specs.Prelude.{◌≡◌, refl, List, [], ◌∷◌, ◌++◌, ℕ, length, get_or, take, drop}
-use Rattle.machine.specs.Machine.{Out, ok, refused, run, trace, rows_of, ◌>>=◌, ◌>>◌, if◌then◌else◌, place, skip, check, turns, many, times}
+use Rattle.machine.specs.Machine.{Out, ok, refused, run, trace, rows_of, ◌>>=◌, ◌>>◌, when◌then◌else◌, place, skip, check, turns, many, times}
 use Rattle.cursor.specs.Rows.{file_frame}
 use Rattle.cursor.specs.Leaves.{next, digits, number, block, manufacturer, guid}
 use Rattle.header.specs.Types.{format_of}
@@ -238,5 +238,5 @@ cases : (first (0x7F ∷ []) ≡ ok 127 1)
     × (unicode.to_utf16 (0x41 ∷ 0xC1 ∷ 0x81 ∷ []) ≡ bad 26 1)
     × (unicode.to_utf16 (0xED ∷ 0xA0 ∷ 0x80 ∷ []) ≡ bad 26 0)
     × (unicode.to_utf16 (0xF4 ∷ 0x90 ∷ 0x80 ∷ 0x80 ∷ []) ≡ bad 26 0)
-unfolding run trace rows_of ◌>>=◌ ◌>>◌ if◌then◌else◌ place skip check turns many times next digits number block manufacturer guid format_of four opening edition file_length entry types_table extent header field contents item_frame universal declared_format version rows_for item next_item meta_items metadata header_length head value identifier unpacker entries unpackers resource node_place uri_place target reference rest front folder node tree.tree starts_at offset_at is_missing logged outside part_end is_taken first_of first_taken detached_at follow_row follow tree.detached reading read_tree read_file first answer reads leaves outcome counts node_table item_table ask promises.resource is_hidden find.same_bytes find.matches find.among own.numbered own.those own.own find.look find.rows_up find.path find.or_else find.first_answer find.nearest find.find find.find_own resolve.row_starting resolve.resource_of resolve.reached resolve.chain resolve.resolve_row resolve.resolve resolve.part resolve.fitting resolve.copy_into row.is_field row.is_binary row.is_description description.value description.a_byte description.guid description.identifier description.resource description.numbers description.lists description.table description.description count.data_read count.is_read count.is_readable count.count_at count.count_of count.count_in count.count_row count.count_for mobile.all mobile.is_empty mobile.role_of_type mobile.role_of_number mobile.role_of_row mobile.role_of_rows mobile.role_of mobile.rows_from mobile.children_that mobile.each_typed mobile.right_edition mobile.is_file mobile.files_only mobile.is_plain mobile.plain_references mobile.is_unpacked mobile.no_unpackers mobile.one_tune mobile.is_need mobile.are_needs mobile.tune_needs mobile.is_short mobile.field_size mobile.is_small mobile.small_fields mobile.check mobile.verdict mobile.mobile text.hex_digit text.plain text.escaped text.escaped_part text.tabbed text.number text.version_text sheet.first_line sheet.node_line sheet.label sheet.text_of sheet.item_line sheet.visible_line sheet.node_lines sheet.item_lines sheet.lines_of sheet.sheet_of sheet.fitting sheet.write sheet.counted sheet.kept room.padded text.shown_byte text.shown text.shown_or text.unicode_text unicode.units unicode.bytes_of unicode.utf16 unicode.bytes16 unicode.utf8 unicode.paired unicode.of_units unicode.first16 unicode.tails unicode.first8 unicode.before unicode.next unicode.chars unicode.bytes_all unicode.unmark unicode.written unicode.converted unicode.to_utf8 unicode.to_utf16 places nodes_read decimal.digits decimal.decimal text.hex_digits text.hexed
+unfolding run trace rows_of ◌>>=◌ ◌>>◌ when◌then◌else◌ place skip check turns many times next digits number block manufacturer guid format_of four opening edition file_length entry types_table extent header field contents item_frame universal declared_format version rows_for item next_item meta_items metadata header_length head value identifier unpacker entries unpackers resource node_place uri_place target reference rest front folder node tree.tree starts_at offset_at is_missing logged outside part_end is_taken first_of first_taken detached_at follow_row follow tree.detached reading read_tree read_file first answer reads leaves outcome counts node_table item_table ask promises.resource is_hidden find.same_bytes find.matches find.among own.numbered own.those own.own find.look find.rows_up find.path find.or_else find.first_answer find.nearest find.find find.find_own resolve.row_starting resolve.resource_of resolve.reached resolve.chain resolve.resolve_row resolve.resolve resolve.part resolve.fitting resolve.copy_into row.is_field row.is_binary row.is_description description.value description.a_byte description.guid description.identifier description.resource description.numbers description.lists description.table description.description count.data_read count.is_read count.is_readable count.count_at count.count_of count.count_in count.count_row count.count_for mobile.all mobile.is_empty mobile.role_of_type mobile.role_of_number mobile.role_of_row mobile.role_of_rows mobile.role_of mobile.rows_from mobile.children_that mobile.each_typed mobile.right_edition mobile.is_file mobile.files_only mobile.is_plain mobile.plain_references mobile.is_unpacked mobile.no_unpackers mobile.one_tune mobile.is_need mobile.are_needs mobile.tune_needs mobile.is_short mobile.field_size mobile.is_small mobile.small_fields mobile.check mobile.verdict mobile.mobile text.hex_digit text.plain text.escaped text.escaped_part text.tabbed text.number text.version_text sheet.first_line sheet.node_line sheet.label sheet.text_of sheet.item_line sheet.visible_line sheet.node_lines sheet.item_lines sheet.lines_of sheet.sheet_of sheet.fitting sheet.write sheet.counted sheet.kept room.padded text.shown_byte text.shown text.shown_or text.unicode_text unicode.units unicode.bytes_of unicode.utf16 unicode.bytes16 unicode.utf8 unicode.paired unicode.of_units unicode.first16 unicode.tails unicode.first8 unicode.before unicode.next unicode.chars unicode.bytes_all unicode.unmark unicode.written unicode.converted unicode.to_utf8 unicode.to_utf16 places nodes_read decimal.digits decimal.decimal text.hex_digits text.hexed
 cases = (refl, refl, refl, refl, refl, refl, refl, refl, refl, refl, refl, refl, refl, refl, refl, refl, refl, refl, refl, refl, refl, refl, refl, refl, refl, refl, refl, refl, refl, refl, refl, refl, refl, refl, refl, refl, refl, refl, refl, refl, refl, refl, refl, refl, refl, refl, refl, refl, refl, refl, refl, refl, refl, refl, refl, refl, refl, refl, refl, refl, refl, refl, refl, refl, refl, refl, refl, refl, refl, refl, refl, refl, refl, refl)

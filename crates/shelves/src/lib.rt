@@ -76,13 +76,7 @@ fn drop_from(
     leave(rt, name, mode, file, outcome)
 }
 
-fn get_from(
-    rt: &(impl Print + Eprint),
-    desk: u64,
-    call: u64,
-    boat: u64,
-    file: &[u8],
-) -> u64 {
+fn get_from(rt: &(impl Print + Eprint), desk: u64, call: u64, boat: u64, file: &[u8]) -> u64 {
     let mut sheet = io::large_buffer();
     match shelf_file::get(file, desk, call, boat, &mut sheet) {
         Got::Refused(number, place) => refused(rt, number, place),
@@ -173,11 +167,7 @@ fn exact_at(rt: &impl Host, i: usize) -> Number {
             if n < u64::MAX || console::is_word(rt, i, b"18446744073709551615") {
                 return Number::Is(n);
             }
-            console::trouble(
-                rt,
-                b"a desk, call or boat",
-                b"above 18446744073709551615",
-            );
+            console::trouble(rt, b"a desk, call or boat", b"above 18446744073709551615");
             Number::None
         }
     }

@@ -10,7 +10,7 @@ use lib.Dec.{T, eqb}
 use lib.ListN.{length, take, drop, length-append}
 use lib.Seq.{take_at, drop_at}
 use borrow.Author.Tests.{lt-ltb, le-ltb, lt-leb, le-leb, eq-eqb, ne_eqb}
-use Rattle.machine.specs.Machine.{ret, here, Out, ok, refused, seen, passed, run, trace, ◌>>=◌, ◌>>◌, if◌then◌else◌, place, skip, check, turns, many, times}
+use Rattle.machine.specs.Machine.{ret, here, Out, ok, refused, seen, passed, run, trace, ◌>>=◌, ◌>>◌, when◌then◌else◌, place, skip, check, turns, many, times}
 use Rattle.cursor.specs.Rows.{Frame, Part, P, Events, has_inline, size_if, inline_size, meta_frame, reference_frame}
 use Rattle.cursor.specs.Leaves as leaves
 use Rattle.room.specs.Parts.{joined}
@@ -118,9 +118,9 @@ unfolding declared_format trace
 format-runs g k p (known v) q = record { keeps = tt }
 format-runs g k p unknown q = record { keeps = tt }
 
-runs-else : {g k : List ℕ} {A : Type 0} {b : Bool} (m : P A) {n : P A} {at : ℕ} → b ≡ false → Runs g k n at → Runs g k (if b then m else n) at
-unfolding if◌then◌else◌
-runs-else {g} {k} m {n} {at} e x = subst (λ c. Runs g k (if c then m else n) at) (sym e) x
+runs-else : {g k : List ℕ} {A : Type 0} {b : Bool} (m : P A) {n : P A} {at : ℕ} → b ≡ false → Runs g k n at → Runs g k (when b then m else n) at
+unfolding when◌then◌else◌
+runs-else {g} {k} m {n} {at} e x = subst (λ c. Runs g k (when c then m else n) at) (sym e) x
 
 -- ---- what is private of a content, by its row
 
@@ -258,10 +258,10 @@ module _ {g k : List ℕ} (big : length g < 2 ^ 28) where
       (runs-place _ _ (runs_skip _ _ (λ _. agree (p + length (vlq n)) c.name s.1 same) runs_ret)))
 
   contents-runs : (end p n : ℕ) → n < 2 ^ 28 → Lies g p (vlq n) → Lies k p (vlq n) → p + length (vlq n) ≤ end → Runs g k (contents end) p
-  unfolding contents if◌then◌else◌
+  unfolding contents when◌then◌else◌
   contents-runs end p n l x y i = runs_then _ (number-back meta_frame 3 end n x l i) (number-runs meta_frame 3 end n x y l i) (by (eqb n 0))
     where
-      by : (b : Bool) {at : ℕ} → Runs g k (if b then ret contents.Universal else ret (contents.Versions n)) at
+      by : (b : Bool) {at : ℕ} → Runs g k (when b then ret contents.Universal else ret (contents.Versions n)) at
       by true = runs_ret
       by false = runs_ret
 
@@ -337,9 +337,9 @@ runs_here : {g k : List ℕ} {A : Type 0} (h : ℕ → P A) (at : ℕ) → Runs 
 unfolding trace
 runs_here h at x = record { keeps = x.keeps }
 
-runs-if : {g k : List ℕ} {A : Type 0} {b : Bool} {m : P A} (n : P A) {at : ℕ} → b ≡ true → Runs g k m at → Runs g k (if b then m else n) at
-unfolding if◌then◌else◌
-runs-if {g} {k} {m = m} n {at} e x = subst (λ c. Runs g k (if c then m else n) at) (sym e) x
+runs-if : {g k : List ℕ} {A : Type 0} {b : Bool} {m : P A} (n : P A) {at : ℕ} → b ≡ true → Runs g k m at → Runs g k (when b then m else n) at
+unfolding when◌then◌else◌
+runs-if {g} {k} {m = m} n {at} e x = subst (λ c. Runs g k (when c then m else n) at) (sym e) x
 
 module _ (g k : List ℕ) (big : length g < 2 ^ 28) (x : Context) (node end : ℕ) where
   next-run : (index : ℕ) (m : Made) (p : ℕ) {cs : List Content} → Entry x.types node index cs → Lies g p (entry_text cs) → p + length

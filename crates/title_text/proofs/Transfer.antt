@@ -7,7 +7,7 @@ use Prim.Native.Nat.{ℕ, zero, suc, ◌+◌, ◌-◌, ◌≤◌}
 use native.Mathlib.Omega.{arith}
 use lib.Dec.{eqb}
 use lib.ListN.{length}
-use Rattle.machine.specs.Machine.{Out, ok, refused, ret, run, trace, ◌>>=◌, ◌>>◌, if◌then◌else◌, place, skip, times}
+use Rattle.machine.specs.Machine.{Out, ok, refused, ret, run, trace, ◌>>=◌, ◌>>◌, when◌then◌else◌, place, skip, times}
 use Rattle.cursor.specs.Rows.{Frame, P, file_frame, unpack_frame, plain, language}
 use Rattle.cursor.specs.Leaves.{number, block, manufacturer, guid}
 use Rattle.room.specs.Parts.{part, joined}
@@ -57,8 +57,8 @@ module _ {f k : List ℕ} where
   unfolding run ◌>>=◌ place
   alike_place h h' at x = record { alike = λ a q e g. x.alike a q e g }
 
-  alike_if : {A : Type 0} (b : Bool) {m m' n n' : P A} {at : ℕ} → Alike f k m m' at → Alike f k n n' at → Alike f k (if b then m else n) (if b then m' else n') at
-  unfolding if◌then◌else◌
+  alike_if : {A : Type 0} (b : Bool) {m m' n n' : P A} {at : ℕ} → Alike f k m m' at → Alike f k n n' at → Alike f k (when b then m else n) (when b then m' else n') at
+  unfolding when◌then◌else◌
   alike_if true x y = x
   alike_if false x y = y
 

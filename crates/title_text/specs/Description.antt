@@ -3,7 +3,7 @@
 -- bytes that is as short is that text: `shortest` and `only-shortest` in proofs/Shortest.antt.
 -- Assumes nothing.
 use Rattle.std.specs.Prelude.{cond, List, [], ◌∷◌, map, ℕ, zero, suc, ◌+◌, ◌-◌, eqb, length, take, drop}
-use Rattle.machine.specs.Machine.{Out, ok, refused, ret, run, ◌>>=◌, ◌>>◌, if◌then◌else◌, place, skip, times}
+use Rattle.machine.specs.Machine.{Out, ok, refused, ret, run, ◌>>=◌, ◌>>◌, when◌then◌else◌, place, skip, times}
 use Rattle.cursor.specs.Rows.{P, file_frame, unpack_frame, plain, language}
 use Rattle.cursor.specs.Refusals.{cut_short}
 use Rattle.cursor.specs.Leaves.{number, block, manufacturer, guid}
@@ -54,8 +54,8 @@ copied f m = do
 -- what names an unpacker: a GUID; a manufacturer and a VLQ; a VLQ
 unfoldable pub identifier_text : List ℕ → ℕ → P (List ℕ)
 identifier_text f kind =
-    if eqb kind 3 then copied f (guid unpack_frame (length f))
-    else if eqb kind 1
+    when eqb kind 3 then copied f (guid unpack_frame (length f))
+    else when eqb kind 1
     then (do
       m ← copied f (manufacturer unpack_frame (length f))
       v ← number unpack_frame cut_short (length f)

@@ -1,7 +1,7 @@
 -- The worked file with other titles, computed in one test.
 -- Assumes nothing.
 use Rattle.std.specs.Prelude.{◌≡◌, refl, List, [], ◌∷◌, ◌++◌, ℕ, take, replicate}
-use Rattle.machine.specs.Machine.{run, trace, rows_of, ◌>>=◌, ◌>>◌, if◌then◌else◌, place, skip, check, turns, many, times}
+use Rattle.machine.specs.Machine.{run, trace, rows_of, ◌>>=◌, ◌>>◌, when◌then◌else◌, place, skip, check, turns, many, times}
 use Rattle.cursor.specs.Leaves.{next, digits, number, block, manufacturer, guid}
 use Rattle.vlq.specs.Vlq as vlq
 use Rattle.header.specs.Types.{format_of}
@@ -101,7 +101,7 @@ cases : (corrected 59 0 hello worked ≡ good greeting)
     × (corrected 0 1 hello elsewhere ≡ bad 36 0)
     × (corrected 0 1 hello worked ≡ bad 37 0)
     × (corrected 58 0 hello worked ≡ bad 22 0)
-unfolding corrected run trace rows_of ◌>>=◌ ◌>>◌ if◌then◌else◌ place skip check turns many times next digits number block manufacturer guid format_of
+unfolding corrected run trace rows_of ◌>>=◌ ◌>>◌ when◌then◌else◌ place skip check turns many times next digits number block manufacturer guid format_of
     four edition file_length entry types_table extent header head.opening field contents item_frame universal declared_format version rows_for item
     next_item meta_items metadata header_length node.head value identifier unpacker entries unpackers resource node_place uri_place target reference
     node.rest node.front folder tree.node tree.tree tree.detached logged starts_at offset_at is_missing outside part_end is_taken first_of first_taken detached_at follow_row follow
