@@ -3,7 +3,8 @@
 
 A name in camel case that begins with a small letter becomes snake case. A dash stays where it joins the name of a definition to a word; a dash between
 plain words becomes `_`. Names of src/, strings, inputs and outputs stay. A new name that would fall together with another of the same file is left out
-and printed. The crate `unicode` has the name of a library of the kit and becomes `utf16`.
+and printed. The crate `unicode` has the name of a library of the kit and becomes `utf16`. The conditional of programs becomes `when◌then◌else◌`, since the
+library's is `if◌then◌else◌`. In clauses `old x` and `new x` become `x.old`, `x.new` of a `&mut` and `x.now` of a `&`.
 """
 
 import collections
@@ -137,6 +138,8 @@ def main():
                 print(f"together: {path}: {old} and {table[old]}")
     turn({**table, **{name: snake(name) for name in MORE}}, fields)
     turn_more()
+    turn_conditional()
+    turn_moments()
     turn_crates()
 
 
@@ -180,6 +183,64 @@ def turn_more():
         if new != text:
             with open(path, "w", encoding="utf-8", newline="") as file:
                 file.write(new)
+
+
+def turn_conditional():
+    for path in files(".antt", ".edit"):
+        text = read(path)
+        if "if◌then◌else◌" not in text and not (path.endswith(".edit") and re.search(r"^(old|new): .*\bif\b.*\bthen\b", text, re.M) and "specs/" in text):
+            continue
+        lines = []
+        for line in text.split("\n"):
+            at = 0 if re.match(r"\s*(--|#)", line) else line.find("  -- ")
+            code, note = (line, "") if at < 0 else (line[:at], line[at:])
+            code = code.replace("if◌then◌else◌", "when◌then◌else◌")
+            lines.append(re.sub(r"(?<![\w◌'\-.])if(?=\s)", "when", code) + note)
+        write(path, "\n".join(lines))
+
+
+def kinds(signature):
+    """Of each parameter, whether it is a `&mut` ('new'), a `&` ('now') or neither (None)."""
+    found = {}
+    for name, lent, changed in re.findall(r"(\w+):\s*(&(?:'\w+\s+)?)?(mut\s+)?", signature):
+        found[name] = ("new" if changed else "now") if lent else None
+    return found
+
+
+def turn_moments():
+    for path in files(".rt"):
+        lines, signature, known, is_open = [], "", {}, False
+        for line in read(path).split("\n"):
+            if re.search(r"\bfn \w+.*\(", line) and not line.strip().startswith("//"):
+                signature, known = line, kinds(line)
+                is_open = line.count("(") != line.count(")")
+            elif is_open:
+                signature += " " + line
+                known = kinds(signature)
+                is_open = signature.count("(") != signature.count(")")
+            elif not line.strip().startswith("//") and "ghost use" not in line:
+
+                def moment(match):
+                    kind = known.get(match.group(2))
+                    if kind is None:
+                        return match.group(0)
+                    return f"{match.group(2)}.{match.group(1) if kind == 'new' else 'now'}"
+
+                line = re.sub(r"(?<![\w.'])(old|new) ([a-z_]\w*)\b(?!\.)", moment, line)
+                line = re.sub(r"\(([a-z_]\w*\.(?:old|new|now))\)", r"\1", line)
+            lines.append(line)
+        text = "\n".join(lines)
+        write(path, re.sub(r"ghost use Rattle\.room\.specs\.Moments\.\{[^}]*\};\n", "", text))
+    moments = "crates/room/specs/Moments.antt"
+    if os.path.exists(moments):
+        os.remove(moments)
+        write("crates/room/specs/Lib.antt", read("crates/room/specs/Lib.antt").replace("pub mod Moments\n", ""))
+
+
+def write(path, text):
+    if text != read(path):
+        with open(path, "w", encoding="utf-8", newline="") as file:
+            file.write(text)
 
 
 def turn_crates():
