@@ -181,8 +181,8 @@ built_make() { # NAME
 
 built() { # NAME
     case $1 in
-    capi) result=target/staticlib/libcapi.a verb=lib made=crates/capi/out/libcapi.a ;;
-    *) result=target/bin/$1 verb=run made=crates/$1/out/$1 ;;
+    capi) crate=capi_c result=target/staticlib/libcapi.a verb=lib made=crates/capi_c/out/libcapi_c.a ;;
+    *) crate=$1 result=target/bin/$1 verb=run made=crates/$1/out/$1 ;;
     esac
     mark=target/built/$1
     IFS= read -r pinned <"$root/share/kit" || return 1
@@ -207,7 +207,7 @@ built() { # NAME
             built_look
             [ -n "$why" ] || exit 0
         fi
-        built_make "$1"
+        built_make "$crate"
     )
 }
 

@@ -1,7 +1,7 @@
 #!/usr/bin/env python3
 """Compares the declarations of the calls: tools/declarations.py [ROOT]
 
-The exports of crates/capi, which are proved, include/xmf.h, the extern block of rust/xmf and python/xmf.py must have the same functions with
+The exports of crates/capi_c, which are proved, include/xmf.h, the extern block of rust/xmf and python/xmf.py must have the same functions with
 the same parameters, by name and type. In C and in the extern block a slice is a pointer and a length: `file: &[u8]` is `const uint8_t *file,
 size_t file_length`, and `nodes: &mut [u64]` is `uint64_t *nodes, size_t node_words`. If the archive is there, it must have these symbols.
 Status 1: something differs, and is printed.
@@ -70,7 +70,7 @@ def functions(found):
 
 def proved():
     found = []
-    for path in sorted((root / "crates/capi/src").rglob("*.rt")):
+    for path in sorted((root / "crates/capi_c/src").rglob("*.rt")):
         text = path.read_text(encoding="utf-8")
         exports = re.findall(r'^#\[unsafe\(no_mangle\)\]\npub extern "C" fn (\w+)\(([^)]*)\)(?=\s*(?:ensures|requires|->|\{))(\s*->)?', text, re.M)
         if len(exports) != text.count("no_mangle"):

@@ -9,21 +9,14 @@ ghost use Rattle.promises.specs.Promises.{read_tree, find_item, find_own, resolv
 ghost use Rattle.capi.specs.Leaves.{asked, Leaves, LeavesTotals, LeavesShelf, LeavesSheet};
 
 // Reads the tree. Answer: version (100, 101, 200), nodes, item rows.
-#[unsafe(no_mangle)]
-pub extern "C" fn xmf_read_tree(
-    file: &[u8],
-    nodes: &mut [u64],
-    items: &mut [u64],
-    answer: &mut [u64],
-)
+pub fn xmf_read_tree(file: &[u8], nodes: &mut [u64], items: &mut [u64], answer: &mut [u64])
     ensures { Leaves read_tree file.now (nodes.old ∷ items.old ∷ []) (nodes.new ∷ items.new ∷ []) answer.old answer.new }
 {
     words::put_tree(answer, file::read_tree(file, nodes, items));
 }
 
 // Finds the nearest item of a field, from a node row: of the standard number (kind 0), or of the custom name (any other kind).
-#[unsafe(no_mangle)]
-pub extern "C" fn xmf_find(
+pub fn xmf_find(
     file: &[u8],
     nodes: &mut [u64],
     items: &mut [u64],
@@ -43,8 +36,7 @@ pub extern "C" fn xmf_find(
 }
 
 // Finds a node row's own item of a field: of the standard number (kind 0), or of the custom name (any other kind).
-#[unsafe(no_mangle)]
-pub extern "C" fn xmf_find_own(
+pub fn xmf_find_own(
     file: &[u8],
     nodes: &mut [u64],
     items: &mut [u64],
@@ -67,8 +59,7 @@ pub extern "C" fn xmf_find_own(
 }
 
 // Resolves a node row's resource. Answer: place, length, row, references followed.
-#[unsafe(no_mangle)]
-pub extern "C" fn xmf_resolve(
+pub fn xmf_resolve(
     file: &[u8],
     nodes: &mut [u64],
     items: &mut [u64],
@@ -81,8 +72,7 @@ pub extern "C" fn xmf_resolve(
 }
 
 // Resolves a node row's resource and copies it. Answer: as for xmf_resolve. The bytes may be hidden ones, which a reference 2 leads to.
-#[unsafe(no_mangle)]
-pub extern "C" fn xmf_resource(
+pub fn xmf_resource(
     file: &[u8],
     nodes: &mut [u64],
     items: &mut [u64],
@@ -96,8 +86,7 @@ pub extern "C" fn xmf_resource(
 }
 
 // Reads the content description that is the item row. Answer: its count for a channel and a resource, both numbered from 0.
-#[unsafe(no_mangle)]
-pub extern "C" fn xmf_voice_count(
+pub fn xmf_voice_count(
     file: &[u8],
     nodes: &mut [u64],
     items: &mut [u64],
@@ -115,16 +104,14 @@ pub extern "C" fn xmf_voice_count(
 }
 
 // Judges Mobile XMF. Answer: the verdict.
-#[unsafe(no_mangle)]
-pub extern "C" fn xmf_judge(file: &[u8], nodes: &mut [u64], items: &mut [u64], answer: &mut [u64])
+pub fn xmf_judge(file: &[u8], nodes: &mut [u64], items: &mut [u64], answer: &mut [u64])
     ensures { Leaves judge_mobile file.now (nodes.old ∷ items.old ∷ []) (nodes.new ∷ items.new ∷ []) answer.old answer.new }
 {
     words::put_judged(answer, mobile::judge(file, nodes, items));
 }
 
 // Counts the file's bytes by kind. Answer: the nine counts. `totals` goes in and comes back: files, refused, nine sums; words that are missing are 0 and are not stored.
-#[unsafe(no_mangle)]
-pub extern "C" fn xmf_account(
+pub fn xmf_account(
     file: &[u8],
     nodes: &mut [u64],
     items: &mut [u64],
@@ -140,8 +127,7 @@ pub extern "C" fn xmf_account(
 }
 
 // Writes the support sheet. Answer: bytes written.
-#[unsafe(no_mangle)]
-pub extern "C" fn xmf_write_sheet(
+pub fn xmf_write_sheet(
     file: &[u8],
     nodes: &mut [u64],
     items: &mut [u64],
@@ -154,8 +140,7 @@ pub extern "C" fn xmf_write_sheet(
 }
 
 // Writes the support sheet in its second edition. Answer: bytes written.
-#[unsafe(no_mangle)]
-pub extern "C" fn xmf_write_sheet2(
+pub fn xmf_write_sheet2(
     file: &[u8],
     nodes: &mut [u64],
     items: &mut [u64],
@@ -168,8 +153,7 @@ pub extern "C" fn xmf_write_sheet2(
 }
 
 // Writes the file anew with a title as the data of an item row. Answer: bytes written. The new file holds the hidden bytes of the old one.
-#[unsafe(no_mangle)]
-pub extern "C" fn xmf_correct_title(
+pub fn xmf_correct_title(
     file: &[u8],
     nodes: &mut [u64],
     items: &mut [u64],
@@ -188,8 +172,7 @@ pub extern "C" fn xmf_correct_title(
 
 // Copies the file with FileLength and TreeEnd set right, in the bytes that they have, and writes a line for each that changed. Answer: bytes of the copy, bytes of the
 // lines. The copy holds the hidden bytes of the file.
-#[unsafe(no_mangle)]
-pub extern "C" fn xmf_mend(
+pub fn xmf_mend(
     file: &[u8],
     nodes: &mut [u64],
     items: &mut [u64],
@@ -205,48 +188,42 @@ pub extern "C" fn xmf_mend(
 
 // Converts UTF-16, high byte first, into UTF-8; one leading mark FEFF is dropped. Answer: bytes written. It converts what it is given, hidden text too, and
 // stands outside demand 3.
-#[unsafe(no_mangle)]
-pub extern "C" fn xmf_utf16_to_utf8(units: &[u8], text: &mut [u8], answer: &mut [u64])
+pub fn xmf_utf16_to_utf8(units: &[u8], text: &mut [u8], answer: &mut [u64])
     ensures { Leaves (to_utf8 units.now) [] (text.old ∷ []) (text.new ∷ []) answer.old answer.new }
 {
     words::put_written(answer, utf16::to_utf8(units, text));
 }
 
 // Converts UTF-8 into UTF-16, high byte first. Answer: bytes written.
-#[unsafe(no_mangle)]
-pub extern "C" fn xmf_utf8_to_utf16(text: &[u8], units: &mut [u8], answer: &mut [u64])
+pub fn xmf_utf8_to_utf16(text: &[u8], units: &mut [u8], answer: &mut [u64])
     ensures { Leaves (to_utf16 text.now) [] (units.old ∷ []) (units.new ∷ []) answer.old answer.new }
 {
     words::put_written(answer, utf16::to_utf16(text, units));
 }
 
 // Moves a sheet to the other edition. Answer: bytes written.
-#[unsafe(no_mangle)]
-pub extern "C" fn xmf_move_sheet(sheet: &[u8], out: &mut [u8], answer: &mut [u64])
+pub fn xmf_move_sheet(sheet: &[u8], out: &mut [u8], answer: &mut [u64])
     ensures { Leaves (move_sheet sheet.now) [] (out.old ∷ []) (out.new ∷ []) answer.old answer.new }
 {
     words::put_written(answer, mover::move_sheet(sheet, out));
 }
 
 // Counts the frames of an ID3v2.4 tag. Answer: how many there are. It walks what it is given, hidden contents too, and stands outside demand 3.
-#[unsafe(no_mangle)]
-pub extern "C" fn xmf_id3_count(tag: &[u8], answer: &mut [u64])
+pub fn xmf_id3_count(tag: &[u8], answer: &mut [u64])
     ensures { Leaves (count_frames tag.now) [] [] [] answer.old answer.new }
 {
     words::put_frame_count(answer, id3::frame_count(tag));
 }
 
 // Gives the tag's frame of a number, from 0 in file order. Answer: the name's four bytes as one number, the first one highest; its contents' place in the tag, and length.
-#[unsafe(no_mangle)]
-pub extern "C" fn xmf_id3_frame(tag: &[u8], number: usize, answer: &mut [u64])
+pub fn xmf_id3_frame(tag: &[u8], number: usize, answer: &mut [u64])
     ensures { Leaves (tag_frame tag.now number) [] [] [] answer.old answer.new }
 {
     words::put_frame(answer, id3::frame(tag, number));
 }
 
 // Puts a sheet on a shelf under a desk, a call and a boat. The cards are words, four a card: desk, call, boat, length. Answer: no value.
-#[unsafe(no_mangle)]
-pub extern "C" fn xmf_shelf_put(
+pub fn xmf_shelf_put(
     cards: &mut [u64],
     text: &mut [u8],
     desk: u64,
@@ -264,8 +241,7 @@ pub extern "C" fn xmf_shelf_put(
 }
 
 // Gets a sheet from a shelf. Answer: its length in bytes.
-#[unsafe(no_mangle)]
-pub extern "C" fn xmf_shelf_get(
+pub fn xmf_shelf_get(
     cards: &[u64],
     text: &[u8],
     desk: u64,
@@ -280,8 +256,7 @@ pub extern "C" fn xmf_shelf_get(
 }
 
 // Drops a sheet from a shelf: its card and its part of the text are cleared. Answer: no value.
-#[unsafe(no_mangle)]
-pub extern "C" fn xmf_shelf_drop(
+pub fn xmf_shelf_drop(
     cards: &mut [u64],
     text: &mut [u8],
     desk: u64,
