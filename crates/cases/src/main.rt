@@ -7,7 +7,7 @@
 mod cards;
 mod numbers;
 mod printed;
-mod rows;
+mod row_cases;
 mod said;
 mod shelves;
 mod sums;
@@ -32,7 +32,7 @@ fn ask_file(
     bytes: &mut [u8],
     out: &mut [u8],
 ) -> usize {
-    let one = rows::ask(line, file, nodes, items, out);
+    let one = row_cases::ask(line, file, nodes, items, out);
     if one > 0 {
         return one;
     }
