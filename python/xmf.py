@@ -91,7 +91,7 @@ CHECKS = (
 FILE_TYPE, NODE_NAME, NODE_NUMBER, RESOURCE_FORMAT, FILENAME, FILENAME_EXTENSION, MAC_OS_TYPE, MIME_TYPE = range(8)
 TITLE, COPYRIGHT, COMMENT, AUTOSTART, PRELOAD, CONTENT_DESCRIPTION, ID3 = range(8, 15)
 
-#: The calls of the library, with the parameters of crates/capi; tools/declarations.py compares them. A slice is a pointer and a length.
+#: The calls of the library, with the parameters of crates/capi_c; tools/declarations.py compares them. A slice is a pointer and a length.
 _CALLS = {
     "xmf_read_tree": "file: &[u8], nodes: &mut [u64], items: &mut [u64], answer: &mut [u64]",
     "xmf_find": "file: &[u8], nodes: &mut [u64], items: &mut [u64], row: usize, kind: u64, number: u64, name: &[u8], answer: &mut [u64]",

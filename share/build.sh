@@ -1,6 +1,6 @@
 # shellcheck shell=sh
 # Builds what is not current. Sourced by xmf, sheet and tools/build.sh, which set `root`, the repository's folder, and `prefix`, that of messages.
-# `built NAME` makes the program NAME, or the archive for C and Rust (capi), current. Status 1: it is not, and standard error says why.
+# `built NAME` makes the program NAME, or the archive for C and Rust (capi, of the crate capi_c), current. Status 1: it is not, and standard error says why.
 #
 # target/built/NAME is the mark of a build. Its time is that of the build's start; its lines are the kit (what `rt version` printed), the sum
 # of the sources (empty if one changed during the build) and the crates. A file or folder is newer than the mark also by its time of change, so
@@ -181,8 +181,8 @@ built_make() { # NAME
 
 built() { # NAME
     case $1 in
-    capi) crate=capi_c result=target/staticlib/libcapi.a verb=lib made=crates/capi_c/out/libcapi_c.a ;;
-    *) crate=$1 result=target/bin/$1 verb=run made=crates/$1/out/$1 ;;
+    capi) of=capi_c result=target/staticlib/libcapi.a verb=lib made=crates/capi_c/out/libcapi_c.a ;;
+    *) of=$1 result=target/bin/$1 verb=run made=crates/$1/out/$1 ;;
     esac
     mark=target/built/$1
     IFS= read -r pinned <"$root/share/kit" || return 1
@@ -207,7 +207,7 @@ built() { # NAME
             built_look
             [ -n "$why" ] || exit 0
         fi
-        built_make "$crate"
+        built_make "$of"
     )
 }
 

@@ -13,7 +13,7 @@ import shutil
 import subprocess
 import sys
 
-# Parameters that capi's source calls otherwise than the interface does. An entry that no longer applies is a problem.
+# Parameters that the exports call otherwise than the interface does. An entry that no longer applies is a problem.
 OTHERWISE = {
     ("xmf_correct_title", "row"): "item_row",
     ("xmf_utf16_to_utf8", "units"): "data",
@@ -116,7 +116,7 @@ for where, found in {"include/xmf.h": header(), "rust/xmf": rust(), "python/xmf.
         if name not in found:
             problems.append(f"{where}: {name} is missing")
         elif name not in wanted:
-            problems.append(f"{where}: {name} is no export of capi")
+            problems.append(f"{where}: {name} is no export of capi_c")
         elif found[name] != wanted[name]:
             problems.append(f"{where}: {name} has other parameters: {found[name]}, not {wanted[name]}")
 archive = root / "target/staticlib/libcapi.a"

@@ -404,7 +404,7 @@ done
 # ---- builds, in a copy with a stand-in for the prover
 
 program_crates=$(crates_of xmf_sheet)
-archive_crates=$(crates_of capi)
+archive_crates=$(crates_of capi_c)
 building_program() { building target/bin/xmf_sheet "${2-$program_crates}" "$1"; }             # REASON [CRATES]
 building_archive() { building target/staticlib/libcapi.a "${2-$archive_crates}" "$1"; } # REASON [CRATES]
 make_copy sheet examples include
@@ -569,11 +569,11 @@ judge 'the archive' "$(building_archive 'target/staticlib/libcapi.a is not there
 run copied "$copy/tools/build.sh" capi
 judge 'the archive, second use' '' 0
 if [ -f "$archive" ] && command -v gcc >/dev/null; then
-    echo '// changed' >>"$copy/crates/capi/src/lib.rt"
+    echo '// changed' >>"$copy/crates/capi_c/src/lib.rt"
     run copied "$copy/examples/c/run.sh"
     untimed
     cp "$work/got" "$work/wanted"
-    judge 'the example in C after a change' "$(building_archive 'crates/capi/src/lib.rt is newer than target/staticlib/libcapi.a' capi)" 0
+    judge 'the example in C after a change' "$(building_archive 'crates/capi_c/src/lib.rt is newer than target/staticlib/libcapi.a' capi_c)" 0
     run copied "$copy/examples/c/run.sh"
     judge 'the example in C again' '' 0
 else
@@ -583,9 +583,9 @@ if [ -f "$archive" ] && command -v cargo >/dev/null; then
     mkdir "$copy/rust"
     cp -R "$root/rust/Cargo.toml" "$root/rust/Cargo.lock" "$root/rust/xmf" "$root/rust/plain" "$root/rust/generate" "$root/rust/differ" "$root/rust/bench" "$copy/rust"
     for use in first second; do
-        echo '// changed' >>"$copy/crates/capi/src/lib.rt"
+        echo '// changed' >>"$copy/crates/capi_c/src/lib.rt"
         run sh -c 'cd "$1/rust" && PATH=$2:$PATH cargo build --offline -p xmf' sh "$copy" "$work/bin"
-        [ "$status" -eq 0 ] && grep -q 'warning: .*build: crates/capi/src/lib.rt is newer than target/staticlib/libcapi.a' "$work/error"
+        [ "$status" -eq 0 ] && grep -q 'warning: .*build: crates/capi_c/src/lib.rt is newer than target/staticlib/libcapi.a' "$work/error"
         count $? "the Rust crate after a change, $use use"
     done
     run sh -c 'cd "$1/rust" && PATH=$2:$PATH cargo build --offline -p xmf' sh "$copy" "$work/bin"
