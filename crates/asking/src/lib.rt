@@ -7,7 +7,7 @@ ghost use Rattle.std.specs.Prelude.{◌≡◌};
 ghost use Rattle.asking.specs.Status.{worst};
 
 use answers::Asked;
-use console::Host;
+use console::{Host, Unwritten};
 use std::io::{Eprint, Print};
 
 // Where a file's name stands: nowhere, at the end of the line, before an answer that is no refusal and on standard error, or on a line of its own. `Shown` is for the view
@@ -22,13 +22,6 @@ pub enum Mode {
     Shown,
 }
 
-// What became of one file: its status; or standard output failed.
-#[derive(Clone, Copy)]
-pub enum Ended {
-    Status(u64),
-    Stopped,
-}
-
 // Puts the field that ends the line.
 fn put_tail(out: &mut [u8], mode: Mode, name: &[u8]) -> usize {
     match mode {
@@ -39,7 +32,7 @@ fn put_tail(out: &mut [u8], mode: Mode, name: &[u8]) -> usize {
 }
 
 // Writes the line that names the file.
-fn write_head(rt: &(impl Print + Eprint), name: &[u8]) -> bool {
+fn write_head(rt: &(impl Print + Eprint), name: &[u8]) -> Result<(), Unwritten> {
     let mut tail = console::line_buffer();
     let mut text = console::line_buffer();
     let a = answers::put_field(&mut tail, name);
@@ -49,14 +42,6 @@ fn write_head(rt: &(impl Print + Eprint), name: &[u8]) -> bool {
     console::write(rt, &text[..m])
 }
 
-// Writes the text of an answer.
-fn write_text(rt: &(impl Print + Eprint), text: &[u8], status: u64) -> Ended {
-    if console::write(rt, text) {
-        return Ended::Status(status);
-    }
-    Ended::Stopped
-}
-
 // Writes an answer, with what stands before it.
 fn write_answer(
     rt: &(impl Print + Eprint),
@@ -64,26 +49,24 @@ fn write_answer(
     name: &[u8],
     text: &[u8],
     status: u64,
-) -> Ended {
+) -> Result<(), Unwritten> {
     match mode {
-        Mode::Quiet => Ended::Status(status),
+        Mode::Quiet => Ok(()),
         Mode::Head => {
-            if write_head(rt, name) {
-                return write_text(rt, text, status);
-            }
-            Ended::Stopped
+            write_head(rt, name)?;
+            console::write(rt, text)
         }
         Mode::Above => {
             if status == 0 {
                 console::say_name(rt, name);
             }
-            write_text(rt, text, status)
+            console::write(rt, text)
         }
-        _ => write_text(rt, text, status),
+        _ => console::write(rt, text),
     }
 }
 
-// Answers for the bytes of a file.
+// Answers for the bytes of a file: its status, or standard output did not take the answer.
 fn answer(
     rt: &(impl Print + Eprint),
     asked: Asked,
@@ -91,7 +74,7 @@ fn answer(
     word: &[u8],
     name: &[u8],
     file: &[u8],
-) -> Ended {
+) -> Result<u64, Unwritten> {
     let mut tail = console::line_buffer();
     let end = put_tail(&mut tail, mode, name);
     let t = spelling::within(end, &tail);
@@ -99,22 +82,35 @@ fn answer(
     let made = answers::make(asked, word, file, &tail[..t], &mut text);
     if made.status == 1 {
         console::trouble(rt, name, b"the item row is hidden");
-        return Ended::Status(1);
+        return Ok(1);
     }
     let n = made.size;
-    write_answer(rt, mode, name, &text[..n], made.status)
+    write_answer(rt, mode, name, &text[..n], made.status)?;
+    Ok(made.status)
 }
 
 // Answers for the file with this name.
-fn answer_read(rt: &impl Host, asked: Asked, mode: Mode, word: &[u8], name: &[u8]) -> Ended {
+fn answer_read(
+    rt: &impl Host,
+    asked: Asked,
+    mode: Mode,
+    word: &[u8],
+    name: &[u8],
+) -> Result<u64, Unwritten> {
     let mut file = program::file_buffer();
     match storage::read(rt, name, &mut file) {
         Some(n) => answer(rt, asked, mode, word, name, &file[..n]),
-        None => Ended::Status(1),
+        None => Ok(1),
     }
 }
 
-fn answer_named(rt: &impl Host, asked: Asked, mode: Mode, word: &[u8], name: &[u8]) -> Ended {
+fn answer_named(
+    rt: &impl Host,
+    asked: Asked,
+    mode: Mode,
+    word: &[u8],
+    name: &[u8],
+) -> Result<u64, Unwritten> {
     match mode {
         Mode::Shown => shows::show_named(rt, name),
         _ => answer_read(rt, asked, mode, word, name),
@@ -122,13 +118,19 @@ fn answer_named(rt: &impl Host, asked: Asked, mode: Mode, word: &[u8], name: &[u
 }
 
 // Answers for the file that argument i names.
-fn answer_file(rt: &impl Host, asked: Asked, mode: Mode, word: &[u8], i: usize) -> Ended {
+fn answer_file(
+    rt: &impl Host,
+    asked: Asked,
+    mode: Mode,
+    word: &[u8],
+    i: usize,
+) -> Result<u64, Unwritten> {
     let mut name = io::buffer();
     match program::arg(rt, i, &mut name) {
         Ok(n) => answer_named(rt, asked, mode, word, &name[..n]),
         Err(error) => {
             console::failed(rt, b"a file's name", error);
-            Ended::Status(1)
+            Ok(1)
         }
     }
 }
@@ -151,8 +153,8 @@ pub fn answer_files(rt: &impl Host, asked: Asked, mode: Mode, first: usize, coun
     let mut status = 0;
     for i in first..count {
         match answer_file(rt, asked, mode, b"", i) {
-            Ended::Stopped => return 1,
-            Ended::Status(s) => status = worse(status, s),
+            Err(unwritten) => return unwritten.status(),
+            Ok(s) => status = worse(status, s),
         }
     }
     status
@@ -161,8 +163,8 @@ pub fn answer_files(rt: &impl Host, asked: Asked, mode: Mode, first: usize, coun
 // Answers for one file.
 pub fn answer_one(rt: &impl Host, asked: Asked, word: &[u8], i: usize) -> u64 {
     match answer_file(rt, asked, Mode::Plain, word, i) {
-        Ended::Stopped => 1,
-        Ended::Status(s) => s,
+        Err(unwritten) => unwritten.status(),
+        Ok(status) => status,
     }
 }
 

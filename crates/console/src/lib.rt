@@ -8,5 +8,6 @@ mod messages;
 pub use arguments::{is_word, number_at, status_at};
 pub use host::Host;
 pub use messages::{
-    failed, line_buffer, say_name, say_refusal, say_safe, trouble, usage, write, write_answer,
+    Unwritten, failed, line_buffer, say_name, say_refusal, say_safe, trouble, usage, write,
+    write_answer,
 };

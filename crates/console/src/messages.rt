@@ -60,18 +60,41 @@ pub fn usage(rt: &impl Eprint) -> u64 {
     1
 }
 
-// Writes to standard output; answers whether all was written, and says so where it was not.
-pub fn write(rt: &(impl Print + Eprint), text: &[u8]) -> bool {
+// Why standard output did not take all of a text: it failed, as was said; or nobody reads it any more, of which nothing is said.
+#[derive(Clone, Copy)]
+pub enum Unwritten {
+    Failed,
+    Unread,
+}
+
+impl Unwritten {
+    // The status that the program ends with.
+    pub fn status(self) -> u64 {
+        match self {
+            Unwritten::Failed => 1,
+            Unwritten::Unread => u64::from(program::UNREAD),
+        }
+    }
+}
+
+// Writes to standard output, and says so where not all was written.
+pub fn write(rt: &(impl Print + Eprint), text: &[u8]) -> Result<(), Unwritten> {
     match rt.write_all(text) {
-        Ok(()) => true,
+        Ok(()) => Ok(()),
         Err(error) => {
+            if program::is_unread(&error) {
+                return Err(Unwritten::Unread);
+            }
             failed(rt, b"standard output", error);
-            false
+            Err(Unwritten::Failed)
         }
     }
 }
 
 // Writes an answer with this status to standard output; answers the status.
 pub fn write_answer(rt: &(impl Print + Eprint), text: &[u8], status: u64) -> u64 {
-    if write(rt, text) { status } else { 1 }
+    match write(rt, text) {
+        Ok(()) => status,
+        Err(unwritten) => unwritten.status(),
+    }
 }

@@ -41,8 +41,9 @@ fn correct_data(rt: &impl Host, file: &[u8], row: usize, asked: Asked, bytes: &[
     if made.status != 0 {
         return console::say_refusal(rt, &text[..n], made.status);
     }
-    if storage::hand_out(rt, &text[..n], 7, 8) != 0 {
-        return 1;
+    let handed = storage::hand_out(rt, &text[..n], 7, 8);
+    if handed != 0 {
+        return handed;
     }
     say_changes(rt, file, &text[..n], row);
     0

@@ -24,8 +24,9 @@ fn extract_from(rt: &impl Host, name: &[u8], file: &[u8], row: usize) -> u64 {
     if made.status != 0 {
         return console::say_refusal(rt, &text[..n], made.status);
     }
-    if storage::hand_out(rt, &text[..n], 5, 6) != 0 {
-        return 1;
+    let handed = storage::hand_out(rt, &text[..n], 5, 6);
+    if handed != 0 {
+        return handed;
     }
     say_origin(rt, name, file, row);
     0
@@ -78,8 +79,9 @@ fn mend_from(rt: &impl Host, file: &[u8]) -> u64 {
     if made.status != 0 {
         return console::say_refusal(rt, &text[..n], made.status);
     }
-    if storage::hand_out(rt, &text[..n], 4, 5) != 0 {
-        return 1;
+    let handed = storage::hand_out(rt, &text[..n], 4, 5);
+    if handed != 0 {
+        return handed;
     }
     say_mended(rt, file);
     0

@@ -104,6 +104,14 @@ pub fn say_reason(rt: &impl Eprint, error: Error) {
     let _ = rt.eprintln(format_args!(": {}", reason(words.as_str())));
 }
 
+// The status of a program whose answer nobody reads to its end, as shells give it: there a signal ends the program. Here the write fails.
+pub const UNREAD: u8 = 141;
+
+// Whether a write failed since nobody reads any more.
+pub fn is_unread(error: &Error) -> bool {
+    error.kind() == ErrorKind::BrokenPipe
+}
+
 // Says on standard error what failed and why, after the program's name. The name is written as names are on a sheet.
 pub fn fail(rt: &impl Eprint, program: &[u8], name: &[u8], error: Error) {
     let mut text = name_buffer();

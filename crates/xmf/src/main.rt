@@ -16,6 +16,7 @@ use spelling::Number;
 use std::fmt::InlineText;
 use std::fs::OpenOptions;
 use std::io::{Result, Write};
+use std::process::ExitCode;
 use std::rt::{Env, Files};
 
 // The mode that the argument after the command names.
@@ -250,17 +251,21 @@ fn write_status(rt: &impl Files, fd: i32, status: u64) -> Result<()> {
     write!(file, "{status}")
 }
 
-// The first argument names the descriptor for the status.
-fn main(rt: HostRuntime) -> Result<()> {
+// The first argument names the descriptor for the status. Where nobody reads the answer to its end there is no status but the program's own.
+fn main(rt: HostRuntime) -> Result<ExitCode> {
     let fd = console::status_at(&rt, 1);
     if fd < 0 {
         console::usage(&rt);
-        return Ok(());
+        return Ok(ExitCode::SUCCESS);
     }
     let status = run(&rt, program::arg_count(&rt));
-    match fd {
-        1 => print!(rt; "{status}"),
-        2 => eprint!(rt; "{status}"),
-        _ => write_status(&rt, fd, status),
+    if status == u64::from(program::UNREAD) {
+        return Ok(ExitCode::from(program::UNREAD));
     }
+    match fd {
+        1 => print!(rt; "{status}")?,
+        2 => eprint!(rt; "{status}")?,
+        _ => write_status(&rt, fd, status)?,
+    }
+    Ok(ExitCode::SUCCESS)
 }

@@ -30,10 +30,10 @@ fn write_sums(rt: &(impl Print + Eprint), so: Summing) -> u64 {
     let mut text = io::large_buffer();
     let made = answers::make_sums(so.sums, &mut text);
     let n = made.size;
-    if !console::write(rt, &text[..n]) {
-        return 1;
+    match console::write(rt, &text[..n]) {
+        Ok(()) => asking::worse(so.status, made.status),
+        Err(unwritten) => unwritten.status(),
     }
-    asking::worse(so.status, made.status)
 }
 
 // Sums the files that the arguments from `first` on name.

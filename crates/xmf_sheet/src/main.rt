@@ -9,7 +9,8 @@ ghost use Rattle.room.specs.Counts as room;
 ghost use Rattle.xmf_sheet.specs.Answer.{refusal_line, too_long, answer_text};
 
 use room::Written;
-use std::io::{Eprint, Input, Print, Read, Result};
+use std::io::{Eprint, Error, Input, Print, Read, Result};
+use std::process::ExitCode;
 use std::rt::{Env, Files};
 
 // Puts the line of a refusal.
@@ -53,47 +54,66 @@ fn write_answer(rt: &impl Print, file: &[u8]) -> Result<()> {
     rt.write_all(&text[..n])
 }
 
+// Says why the answer was not written; nothing where nobody reads it.
+fn say_unwritten(rt: &impl Eprint, error: Error) -> ExitCode {
+    if program::is_unread(&error) {
+        return ExitCode::from(program::UNREAD);
+    }
+    program::fail(rt, b"xmf_sheet", b"standard output", error);
+    ExitCode::SUCCESS
+}
+
 // Reads an input and writes the answer.
-fn answer(rt: &(impl Print + Eprint), input: &mut impl Read, name: &[u8]) {
+fn answer(rt: &(impl Print + Eprint), input: &mut impl Read, name: &[u8]) -> ExitCode {
     let mut file = program::file_buffer();
     match program::read_input(input, &mut file) {
-        Err(error) => program::fail(rt, b"xmf_sheet", name, error),
-        Ok(n) => {
-            if let Err(error) = write_answer(rt, &file[..n]) {
-                program::fail(rt, b"xmf_sheet", b"standard output", error);
-            }
+        Err(error) => {
+            program::fail(rt, b"xmf_sheet", name, error);
+            ExitCode::SUCCESS
         }
+        Ok(n) => match write_answer(rt, &file[..n]) {
+            Err(error) => say_unwritten(rt, error),
+            Ok(()) => ExitCode::SUCCESS,
+        },
     }
 }
 
 // Opens the file with this name and writes the answer.
-fn answer_named(rt: &(impl Files + Print + Eprint), name: &[u8]) {
+fn answer_named(rt: &(impl Files + Print + Eprint), name: &[u8]) -> ExitCode {
     match program::open(rt, name) {
-        Err(error) => program::fail(rt, b"xmf_sheet", name, error),
+        Err(error) => {
+            program::fail(rt, b"xmf_sheet", name, error);
+            ExitCode::SUCCESS
+        }
         Ok(mut file) => answer(rt, &mut file, name),
     }
 }
 
 // Writes the answer for the file that the first argument names.
-fn answer_first(rt: &(impl Env + Files + Print + Eprint)) {
+fn answer_first(rt: &(impl Env + Files + Print + Eprint)) -> ExitCode {
     let mut name = io::buffer();
     match program::arg(rt, 1, &mut name) {
-        Err(error) => program::fail(rt, b"xmf_sheet", b"the first argument", error),
+        Err(error) => {
+            program::fail(rt, b"xmf_sheet", b"the first argument", error);
+            ExitCode::SUCCESS
+        }
         Ok(n) => answer_named(rt, &name[..n]),
     }
 }
 
-fn run(rt: &(impl Env + Files + Input + Print + Eprint)) {
+fn run(rt: &(impl Env + Files + Input + Print + Eprint)) -> ExitCode {
     let count = program::arg_count(rt);
     if count < 2 {
-        answer(rt, &mut rt.reader(), b"standard input");
-    } else if count > 2 {
-        program::say(rt, b"xmf_sheet: one file at a time\n");
-    } else {
-        answer_first(rt);
+        return answer(rt, &mut rt.reader(), b"standard input");
     }
+    if count > 2 {
+        program::say(rt, b"xmf_sheet: one file at a time\n");
+        return ExitCode::SUCCESS;
+    }
+    answer_first(rt)
 }
 
-fn main(rt: HostRuntime) {
-    run(&rt);
+// The status is 0 also where there is no answer: standard error says why.
+fn main(rt: HostRuntime) -> ExitCode {
+    run(&rt)
 }
