@@ -38,7 +38,11 @@ give() { # WORD..
 finish() { # STATUS,PROGRAM,FILTER
     case $1 in
     [0-3],0,0) exit "${1%%,*}" ;;
-    *,141,0 | *,141) exit 141 ;;
+    *,141,0 | *,141)
+        # the program ignores the signal, as its runtime does, and ends as if it had come; where the caller ignores it, it is an error
+        if sh -c 'kill -s PIPE "$$"' 2>/dev/null; then fail 'standard output: Broken pipe'; fi
+        exit 141
+        ;;
     *) fail "the answer is not whole: the program or its filter failed ($1)" ;;
     esac
 }
