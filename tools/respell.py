@@ -18,7 +18,7 @@ CAMEL = re.compile(r"[a-z][a-z0-9_']*[A-Z]")
 LIBRARY = re.compile(r"use (?:Rattle\.std|mathlib|Prim|native|lib|borrow|denote)\b.*?\{(.*?)\}", re.S)
 CRATES = {"unicode": "utf16"}
 # new names that have a plainer form than the rule's
-PLAIN = {"decEqZero": "dec_eq_zero"}
+PLAIN = {"decEqZero": "dec_eq_zero", "notATag": "not_a_tag", "notATitle": "not_a_title"}
 # constructors that stand several on a line, and fields of structs of src/
 MORE = ["metaFrame", "unpackFrame", "nodeFrame", "referenceFrame", "headerEnd", "nameLength", "unpackerCount"]
 

@@ -108,8 +108,8 @@ abbrev pub too_many_files : ℕ
 too_many_files = 32
 
 -- fewer than ten bytes, no tag, or not version 4
-abbrev pub notATag : ℕ
-notATag = 33
+abbrev pub not_a_tag : ℕ
+not_a_tag = 33
 
 -- of a tag: cut short, a size byte of 80h or more, too small an extended size
 abbrev pub bad_tag : ℕ
@@ -123,8 +123,8 @@ abbrev pub refers_elsewhere : ℕ
 refers_elsewhere = 36
 
 -- the content is hidden, or a version
-abbrev pub notATitle : ℕ
-notATitle = 37
+abbrev pub not_a_title : ℕ
+not_a_title = 37
 
 abbrev pub result_too_large : ℕ
 result_too_large = 38
@@ -145,7 +145,7 @@ of_reader =
 abbrev pub placeless : List ℕ
 placeless =
     too_large ∷ no_such_row ∷ ends_at_folder ∷ ends_at_uri ∷ too_many_hops ∷ no_room ∷ no_such_item ∷ no_such_card ∷ no_free_card ∷ already_there
-    ∷ sheet_too_long ∷ too_many_files ∷ refers_elsewhere ∷ notATitle ∷ result_too_large ∷ damaged_shelf ∷ []
+    ∷ sheet_too_long ∷ too_many_files ∷ refers_elsewhere ∷ not_a_title ∷ result_too_large ∷ damaged_shelf ∷ []
 
 -- those that are placed in the file, at most at its length (17 at 0). The rest are placed in other data: 26 in a text, 31 in a sheet (a line), 33 to 35 in a tag.
 abbrev pub in_file : List ℕ

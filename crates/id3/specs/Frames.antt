@@ -2,7 +2,7 @@
 -- Assumes nothing.
 use Rattle.std.specs.Prelude.{cond, List, [], ◌∷◌, ◌++◌, ℕ, ltb, length, get_or}
 use Rattle.machine.specs.Machine.{Out, ok, refused, run}
-use Rattle.cursor.specs.Refusals.{no_such_row, notATag, bad_tag, unsynchronised}
+use Rattle.cursor.specs.Refusals.{no_such_row, not_a_tag, bad_tag, unsynchronised}
 use Rattle.room.specs.Room.{Result, good, bad}
 use Rattle.id3.specs.declared.TagFrame.{TagFrame}
 use Rattle.id3.specs.Tag.{tag}
@@ -30,7 +30,7 @@ frame_at i s = frame_in i (frames_of s)
 
 -- the refusals of either, which has no file
 abbrev pub count_refusals : List ℕ
-count_refusals = notATag ∷ bad_tag ∷ unsynchronised ∷ []
+count_refusals = not_a_tag ∷ bad_tag ∷ unsynchronised ∷ []
 
 abbrev pub frame_refusals : List ℕ
 frame_refusals = count_refusals ++ no_such_row ∷ []

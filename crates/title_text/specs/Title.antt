@@ -1,7 +1,7 @@
 -- The question: the file with other data in one universal, visible content, or a refusal.
 -- Assumes nothing.
 use Rattle.std.specs.Prelude.{Bool, false, cond, not, ◌||◌, List, [], ◌∷◌, ◌≡◌, ℕ, ◌^◌, ◌≤◌, ◌<◌, ltb, leb, eqb, length, get_or}
-use Rattle.cursor.specs.Refusals.{no_such_row, refers_elsewhere, notATitle, result_too_large}
+use Rattle.cursor.specs.Refusals.{no_such_row, refers_elsewhere, not_a_title, result_too_large}
 use Rattle.room.specs.Room.{no_room}
 use Rattle.cursor.specs.declared.Node.{Node}
 use Rattle.cursor.specs.declared.Item.{Item}
@@ -59,9 +59,9 @@ unfoldable pub correct_title : (i : ℕ) → (text : List ℕ) → (room : ℕ) 
 correct_title i text room f h ns is =
     cond (leb (length is) i) (bad no_such_row 0)
     (cond (elsewhere ns) (bad refers_elsewhere 0)
-    (cond (is_no_title (item_at is i)) (bad notATitle 0)
+    (cond (is_no_title (item_at is i)) (bad not_a_title 0)
     (fitting room (titled_file i text f h ns is))))
 
 -- its own refusals, after the reader's
 abbrev pub refusals : List ℕ
-refusals = no_such_row ∷ refers_elsewhere ∷ notATitle ∷ result_too_large ∷ no_room ∷ []
+refusals = no_such_row ∷ refers_elsewhere ∷ not_a_title ∷ result_too_large ∷ no_room ∷ []
