@@ -14,7 +14,7 @@ mod sums;
 mod texts;
 mod written;
 
-ghost use Rattle.std.specs.Prelude.{◌≤◌, length, IfOk};
+ghost use Rattle.std.specs.Prelude.{◌≡◌, ◌≤◌, length, IfOk};
 
 use casetext::STALE;
 use said::put_unless;
@@ -125,7 +125,8 @@ fn to_front(text: &mut [u8], from: usize, end: usize) -> usize
 
 // Reads until the buffer is full or the input ends, and answers how many bytes came.
 fn read_full(input: &mut impl Read, buf: &mut [u8]) -> Result<usize>
-    ensures { IfOk result (λ n. n ≤ length buf.new) }
+    ensures counted { IfOk result (λ n. n ≤ length buf.new) }
+    ensures long { length buf.new ≡ length buf.old }
 {
     let mut done = 0;
     while done < buf.len() {
@@ -141,7 +142,8 @@ fn read_full(input: &mut impl Read, buf: &mut [u8]) -> Result<usize>
 // Reads more behind the first bytes, runs what lines there are, and keeps the rest; answers how many bytes that is.
 fn run_more(rt: &(impl Input + Print), text: &mut [u8], kept: usize) -> Result<usize>
     requires { kept ≤ length text.old }
-    ensures { IfOk result (λ n. n ≤ length text.new) }
+    ensures counted { IfOk result (λ n. n ≤ length text.new) }
+    ensures long { length text.new ≡ length text.old }
 {
     let end = kept + read_full(&mut rt.reader(), &mut text[kept..])?;
     let at = run_lines(rt, &text[0..end])?;
