@@ -1,5 +1,5 @@
 #!/bin/sh
-# Compares every list of refusals with share/refusals.tsv: docs/REFUSALS.md, man/xmf.1, include/xmf.h, rust/xmf, and the names in crates/cursor; and the
+# Compares every list of refusals with share/refusals.tsv: docs/REFUSALS.md, man/xmf.1, include/xmf.h, rust/xmf, and the names in crates/cursor and crates/refusals; and the
 # checks of the verdict in man/xmf.1 with share/checks.tsv. Runs tools/tables.py --check, which compares what is made of the table and of
 # share/version, and tools/declarations.py, which compares the declarations of the calls. Needs python3. The last line is `N passed, M failed`.
 set -u
@@ -35,7 +35,7 @@ checks = table("share/checks.tsv", 2)
 fields = table("share/fields.tsv", 2)
 meanings = [(int(n), m) for n, _, m, _ in rows]
 names = [(int(n), name) for n, name, _, _ in rows]
-constants = [(n, snake(name).upper()) for n, name in names]
+reasons = [(n, name[0].upper() + name[1:]) for n, name in names]
 sentences = [(int(n), m[0].upper() + m[1:] + ". " + t) for n, _, m, t in rows]
 results = []
 
@@ -74,8 +74,12 @@ compare("rust/xmf", meanings, [(int(n), words(m.replace("\\\n", ""))) for n, m i
 
 text = read("crates/cursor/specs/Refusals.antt") + read("crates/room/specs/Room.antt")
 compare("Refusals.antt", [(n, snake(name)) for n, name in names], sorted((int(n), snake(a)) for a, n in re.findall(r"^(\w+) = (\d+)$", text, re.M)))
-text = read("crates/cursor/src/lib.rt")
-compare("cursor", constants, [(int(n), a) for a, n in re.findall(r"^pub const (\w+): u64 = (\d+);$", text, re.M)])
+text = read("crates/refusals/src/lib.rt")
+text = text[text.index("pub enum Reason") :]
+found = re.findall(r"^    (\w+)(?: = 1)?,$", text[: text.index("\n}")], re.M)
+compare("Reason", reasons, list(enumerate(found, 1)))
+text = read("crates/refusals/specs/Reasons.antt")
+compare("Reasons.antt", reasons, [(int(n), a) for a, n in re.findall(r"^number_of reason\.(\w+) = (\d+)$", text, re.M)])
 
 for script in (["tools/tables.py", "--check"], ["tools/declarations.py"]):
     results.append(subprocess.run([sys.executable, *script], stdout=subprocess.DEVNULL).returncode == 0)

@@ -34,7 +34,7 @@ use Rattle.file.specs.Reading.{rows, read_file}
 use Rattle.file_laws.proofs.EachNode.{own_events, OfRow, own_row, by_nodes}
 use Rattle.file.proofs.Follow.{ReadAs, read_back}
 use Rattle.file.proofs.Shown.{header_of_lem, log-inside}
-use Rattle.account.specs.Account.{kind_of_frame, kind_of_plain, kind_of, kind, size, kind_at, Had, IsOf, events_of}
+use Rattle.account.specs.Account.{kind_of_frame, kind_of_plain, kind_of, kind_at, Had, IsOf, events_of}
 use Rattle.account.specs.ByRows.{contents_at, folded}
 use Rattle.account.specs.ByPlace.{Span, over, header_span, node_spans, item_span, over_node, over_item, kind_by_rows}
 use Rattle.account.proofs.Places.{in_event, had_covers, kind-only}

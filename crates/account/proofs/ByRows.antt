@@ -8,7 +8,7 @@ use mathlib.Core.List.{List, [], ◌∷◌, ◌++◌}
 use Prim.Native.Nat.{ℕ, ◌+◌, ◌-◌, ◌≤◌, ◌<◌}
 use native.Mathlib.Omega.{arith}
 use lib.Dec.{eqb}
-use Rattle.machine.specs.Machine.{Out, ret, ok, passed, run, trace, rows_of, place, skip, check, times}
+use Rattle.machine.specs.Machine.{Out, ok, passed, run, trace, rows_of, times}
 use Rattle.cursor.specs.Rows.{node_row, size_if, inline_size, P, Events}
 use Rattle.cursor.specs.declared.Node.{Node}
 use Rattle.cursor.specs.declared.Item.{Item}
@@ -26,9 +26,8 @@ use Rattle.node.specs.declared.Unpackers.{Unpackers}
 use Rattle.node.specs.declared.Reference.{Reference}
 use Rattle.node.specs.declared.Bounds.{Bounds}
 use Rattle.node.specs.declared.Front.{Front}
-use Rattle.tree.specs.Tree.{folder, detached}
+use Rattle.tree.specs.Tree.{folder}
 use Rattle.rows.specs.Rows.{node_of, nodes_of}
-use Rattle.file.specs.Reading.{rows}
 use Rattle.file.proofs.Follow.{ReadAs}
 use Rattle.file_laws.proofs.EachNode.{OfRow, own_row, by_nodes}
 use Rattle.account.specs.Account.{sum_over}

@@ -1,5 +1,7 @@
 -- The ways out of the call: a 1,001st file, a refused one, and one that is counted. What each comes to: answer, totals and both tables.
 -- Assumes nothing.
+use Rattle.std.proofs.Common.{Ok, Err}
+use Rattle.std.proofs.Common as std
 use mathlib.Core.Path.{◌≡◌, refl, sym, ap, ap₂, ◌∙◌, subst}
 use mathlib.Core.Bool.{true, false}
 use mathlib.Core.List.{List}
@@ -8,14 +10,14 @@ use native.Mathlib.Omega.{arith}
 use lib.Dec.{leb}
 use lib.ListN.{length, replicate}
 use borrow.Author.Tests.{le-leb, lt-leb}
-use Rattle.cursor.specs.declared.FilePlace.{FilePlace}
+use Rattle.refusals.specs.Reasons.{number_of}
+use Rattle.refusals.specs.declared.Refusal.{Refusal}
+use Rattle.room.specs.Told.{told}
 use Rattle.rows.specs.Rows.{node_width, item_width, nodes_in, items_in, node_at, node_from}
 use Rattle.metadata.specs.Tables.{limits}
 use Rattle.file.specs.Reading.{read_file, read_of, node_table, item_table}
 use Rattle.file.specs.Asking.{Result, good, bad, ask, kept_nodes, kept_items}
 use Rattle.file.specs.declared.Summary.{Summary}
-use Rattle.file.specs.declared.Read.{Read}
-use Rattle.file.specs.declared.Read.TheVariants as read
 use Rattle.rows.proofs.Rows.{node_at_lem, nodes-in_length}
 use Rattle.file.proofs.Rows.{Standing, standing}
 use Rattle.file.proofs.Exits.{says-unread, says-answer}
@@ -29,8 +31,8 @@ use Rattle.account.proofs.Exact.{kinds-are, rows_fit}
 
 -- ---- what the code knows of the rows that were read
 
-module _ (f : List ℕ) (nsize isize : ℕ) {r : Read} {u v : List ℕ} (e : r ≡ read_of (read_file (limits nsize isize) f)) (a : u ≡ node_table nsize (read_file (limits nsize isize) f))
-    (b : v ≡ item_table isize (read_file (limits nsize isize) f)) {s : Summary} (k : r ≡ read.Is s) where
+module _ (f : List ℕ) (nsize isize : ℕ) {r : std.Result Summary Refusal} {u v : List ℕ} (e : told r ≡ read_of (read_file (limits nsize isize) f)) (a : u ≡ node_table nsize (read_file (limits nsize isize) f))
+    (b : v ≡ item_table isize (read_file (limits nsize isize) f)) {s : Summary} (k : r ≡ Ok s) where
   stands : Standing f (read_file (limits nsize isize) f) s u v
   stands = standing f (limits nsize isize) nsize isize e a b k
 
@@ -72,16 +74,16 @@ module _ (f : List ℕ) (nsize isize : ℕ) (t : Totals) where
   unfolding allowed totals_left kept_nodes kept_items
   ends_full l a b = let e : leb most_files t.files ≡ true = le-leb most_files t.files l in (rw e refl, (rw e refl, (rw e a, rw e b)))
 
-  module _ (l : t.files < most_files) {r : Read} {u v : List ℕ} (e : r ≡ read_of (read_file (limits nsize isize) f))
+  module _ (l : t.files < most_files) {r : std.Result Summary Refusal} {u v : List ℕ} (e : told r ≡ read_of (read_file (limits nsize isize) f))
       (a : u ≡ node_table nsize (read_file (limits nsize isize) f)) (b : v ≡ item_table isize (read_file (limits nsize isize) f)) where
-    pub ends_unread : {n : ℕ} {p : FilePlace} → r ≡ read.Refused n p → {s : Totals} → s ≡ refused_one t → Ends (bad n p.0) s u v
+    pub ends_unread : {q : Refusal} → r ≡ Err q → {s : Totals} → s ≡ refused_one t → Ends (bad (number_of q.0) q.1) s u v
     unfolding allowed totals_left
     ends_unread k x =
         let w = says-unread nsize isize _ (kinds_of (limits nsize isize) f) e k a b in
         let z : leb most_files t.files ≡ false = lt-leb most_files t.files l in
         (rw z w.0, (rw z (x ∙ ap (one_more t) w.0), (rw z w.1, rw z w.2)))
 
-    pub ends_counted : {s : Summary} → r ≡ read.Is s → {kinds : Kinds} → kinds ≡ kinds_by f s.header_end.0 (nodes_in s.nodes u) (items_in s.items v)
+    pub ends_counted : {s : Summary} → r ≡ Ok s → {kinds : Kinds} → kinds ≡ kinds_by f s.header_end.0 (nodes_in s.nodes u) (items_in s.items v)
         → {s' : Totals} → s' ≡ added t kinds → Ends (good kinds) s' u v
     unfolding allowed totals_left kinds_of
     ends_counted {s} k {kinds} c x =

@@ -7,8 +7,8 @@ use mathlib.Core.List.{List, ◌++◌, append-nil}
 use Prim.Native.Nat.{ℕ, ◌+◌, ◌-◌, ◌≤◌, ◌<◌}
 use native.Mathlib.Omega.{arith}
 use borrow.Author.Tests.{leb-true}
-use lib.Dec.{T, eqb, leb}
-use Rattle.machine.specs.Machine.{ok, run, trace, ret, ◌>>=◌, place, check}
+use lib.Dec.{T, eqb}
+use Rattle.machine.specs.Machine.{ok, run, trace, ret, ◌>>=◌}
 use Rattle.cursor.specs.Rows.{node_frame, meta_frame, item_row, P, Events}
 use Rattle.cursor.specs.Leaves.{number, block}
 use Rattle.cursor.specs.declared.Node.{Node}

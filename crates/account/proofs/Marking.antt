@@ -1,5 +1,7 @@
 -- Marks that are painted over: a span, spans one after the other, and the rows of a table. At the end each mark is the kind of its place.
 -- Assumes nothing.
+use Rattle.std.proofs.Common.{Ok, Err}
+use Rattle.std.proofs.Common as std
 use mathlib.Core.Path.{◌≡◌, refl, sym, ap, ap₂, ◌∙◌, subst}
 use mathlib.Core.List.{List, ◌++◌}
 use Prim.Native.Nat.{ℕ, zero, suc, ◌+◌, ◌*◌, ◌-◌, ◌≤◌, ◌<◌, ◌%◌, min, max}
@@ -10,7 +12,8 @@ use borrow.Author.Tests.{le-leb, lt-leb, lt-ltb, le-ltb, eq-eqb, ne_eqb}
 use lib.ListN.{length, get_or, take, replicate, set, length-set}
 use lib.Seq.{get_or-set_same, get_or-set_other, get_or-take, length-take-le, ext_get_or}
 use Rattle.cursor.specs.Rows.{inline_size, Events}
-use Rattle.cursor.specs.declared.FilePlace.{FilePlace}
+use Rattle.refusals.specs.Reasons.{number_of}
+use Rattle.refusals.specs.declared.Refusal.{Refusal}
 use Rattle.cursor.specs.declared.Node.{Node}
 use Rattle.cursor.specs.declared.Item.{Item}
 use Rattle.rows.specs.Rows.{node_width, item_width, rows_from, node_from, item_from, nodes_in, items_in}
@@ -18,14 +21,10 @@ use Rattle.metadata.specs.Tables.{limits}
 use Rattle.room.specs.Counts.{too_many}
 use Rattle.room.specs.Room.{Result, good, bad, padded, fitting, counted, kept}
 use Rattle.room.specs.Told.{told}
-use Rattle.room.specs.declared.Written.{Written}
-use Rattle.room.specs.declared.Written.TheVariants as written
 use Rattle.file.specs.Hidden.{is_hidden}
 use Rattle.file.specs.Reading.{Reading, read_file, read_of, node_table, item_table}
 use Rattle.file.specs.Asking.{ask, kept_nodes, kept_items}
 use Rattle.file.specs.declared.Summary.{Summary}
-use Rattle.file.specs.declared.Read.{Read}
-use Rattle.file.specs.declared.Read.TheVariants as read
 use Rattle.file.proofs.Rows.{Standing, standing}
 use Rattle.file.proofs.Exits as exits
 use Rattle.account.specs.Account.{kind_at, kinds_from, events_of}
@@ -214,33 +213,33 @@ module _ (f : List ℕ) (nsize isize room : ℕ) where
   asked = ask o (marks_of (limits nsize isize) room f)
 
   -- the answer, both tables, and the marks
-  abbrev pub Ends : Written → (u v marks : List ℕ) → Type 0
-  Ends a u v marks = (told a ≡ counted asked) × ((u ≡ kept_nodes nsize o asked) × ((v ≡ kept_items isize o asked) × (marks ≡ kept room asked)))
+  abbrev pub Ends : Result ℕ → (u v marks : List ℕ) → Type 0
+  Ends a u v marks = (a ≡ counted asked) × ((u ≡ kept_nodes nsize o asked) × ((v ≡ kept_items isize o asked) × (marks ≡ kept room asked)))
 
-  ends_by : (a : Written) {x : Result (List ℕ)} {u v marks : List ℕ} → exits.Says nsize isize o (marks_of (limits nsize isize) room f) x u v →
-      told a ≡ counted x → marks ≡ kept room x → Ends a u v marks
-  ends_by a w e z = (e ∙ ap counted w.0, (w.1, (w.2, z ∙ ap (kept room) w.0)))
+  ends_by : {a : Result ℕ} {x : Result (List ℕ)} {u v marks : List ℕ} → exits.Says nsize isize o (marks_of (limits nsize isize) room f) x u v →
+      a ≡ counted x → marks ≡ kept room x → Ends a u v marks
+  ends_by w e z = (e ∙ ap counted w.0, (w.1, (w.2, z ∙ ap (kept room) w.0)))
 
-  module _ {r : Read} {u v : List ℕ} (e : r ≡ read_of o) (a : u ≡ node_table nsize o) (b : v ≡ item_table isize o) where
-    pub ends_unread : {n : ℕ} {p : FilePlace} → r ≡ read.Refused n p → {marks : List ℕ} → marks ≡ replicate room 0 → Ends (written.Refused n p.0) u v marks
+  module _ {r : std.Result Summary Refusal} {u v : List ℕ} (e : told r ≡ read_of o) (a : u ≡ node_table nsize o) (b : v ≡ item_table isize o) where
+    pub ends_unread : {q : Refusal} → r ≡ Err q → {marks : List ℕ} → marks ≡ replicate room 0 → Ends (bad (number_of q.0) q.1) u v marks
     unfolding counted kept
-    ends_unread k z = ends_by (written.Refused _ _) (exits.says-unread nsize isize o (marks_of (limits nsize isize) room f) e k a b) refl z
+    ends_unread k z = ends_by (exits.says-unread nsize isize o (marks_of (limits nsize isize) room f) e k a b) refl z
 
-    module _ {s : Summary} (k : r ≡ read.Is s) where
+    module _ {s : Summary} (k : r ≡ Ok s) where
       st : Standing f o s u v
       st = standing f (limits nsize isize) nsize isize e a b k
 
       abbrev es : Events
       es = events_of (limits nsize isize) f st.h
 
-      pub ends_few : room < length f → {u' v' marks : List ℕ} → u' ≡ replicate nsize 0 → v' ≡ replicate isize 0 → marks ≡ replicate room 0 → Ends (written.Refused 22 0) u' v' marks
+      pub ends_few : room < length f → {u' v' marks : List ℕ} → u' ≡ replicate nsize 0 → v' ≡ replicate isize 0 → marks ≡ replicate room 0 → Ends (bad 22 0) u' v' marks
       unfolding counted kept marks_of
       ends_few l x y z =
           let c = kinds-length es 0 (length f) in
-          ends_by (written.Refused 22 0) (exits.says-refused nsize isize o (marks_of (limits nsize isize) room f) st.reads (fitting-bad room _ (omega arith)) x y) refl z
+          ends_by (exits.says-refused nsize isize o (marks_of (limits nsize isize) room f) st.reads (fitting-bad room _ (omega arith)) x y) refl z
 
       pub ends_marked : length f ≤ room → (t : List ℕ) → length t ≡ room → Shows t (kind_by_rows f s.header_end.0 (nodes_in s.nodes u) (items_in s.items v))
-          → {marks : List ℕ} → marks ≡ take (length f) t ++ replicate (length t - length f) 0 → Ends (written.Bytes (length f)) u v marks
+          → {marks : List ℕ} → marks ≡ take (length f) t ++ replicate (length t - length f) 0 → Ends (good (length f)) u v marks
       unfolding counted kept marks_of
       ends_marked l t n w c =
           let z = kinds-length es 0 (length f) in
@@ -249,8 +248,7 @@ module _ (f : List ℕ) (nsize isize room : ℕ) where
           ∙ ap₂ (λ (ns : List Node) (is : List Item). kind_by_rows f st.h.extent.end ns is i) st.nodes-are st.items-are ∙ sym
           (by_place (limits nsize isize) f st.reads i) in
           let y = marks_are es (length f) t (omega arith) at c in
-          ends_by (written.Bytes (length f))
-          (exits.says-answer nsize isize o (marks_of (limits nsize isize) room f) st.reads (fitting-good room _ (omega arith)) a b)
+          ends_by (exits.says-answer nsize isize o (marks_of (limits nsize isize) room f) st.reads (fitting-good room _ (omega arith)) a b)
           (ap good (sym z)) (y ∙ ap (λ v. padded v (kinds_from es 0 (length f))) n)
 
 -- zeros of a length that was kept

@@ -1,22 +1,20 @@
 -- What the code's answer says, and what a call leaves: each is one line of its contract.
 -- Assumes nothing.
 use Rattle.std.specs.Prelude.{List, [], ◌∷◌, ℕ, length}
+use Rattle.room.specs.Told as room
 use Rattle.metadata.specs.Tables.{limits}
-use Rattle.file.specs.Asking.{Result, good, bad, kept_nodes, kept_items, reads, answered}
+use Rattle.file.specs.Asking.{Result, kept_nodes, kept_items, reads, answered}
 use Rattle.account.specs.Account.{kinds_of}
 use Rattle.account.specs.Totals.{allowed, totals_left}
 use Rattle.account.specs.declared.Kinds.{Kinds}
 use Rattle.account.specs.declared.Totals.{Totals}
 use Rattle.account.specs.declared.Accounted.{Accounted}
-use Rattle.account.specs.declared.Accounted.TheVariants as accounted
 
 abbrev pub told : Accounted → Result Kinds
-told (accounted.Is k t) = good k
-told (accounted.Refused n p t) = bad n p
+told a = room.told a.kinds
 
 abbrev pub totals_in : Accounted → Totals
-totals_in (accounted.Is k t) = t
-totals_in (accounted.Refused n p t) = t
+totals_in a = a.totals
 
 -- in words: the nine counts; files, refused and the nine sums
 abbrev pub kind_words : Kinds → List ℕ

@@ -12,8 +12,8 @@ ghost use Rattle.account.specs.ByRows.{last_byte, counted, meta_at, follow_size,
 ghost use Rattle.account.specs.Totals.{plus_kinds, added, refused_one};
 ghost use Rattle.account.specs.Told.{told, totals_in, answer, totals_after, nodes_after, items_after};
 
-use cursor::{Cursor, FilePlace, Item, Node, Numbered};
-use file::Read;
+use cursor::{Cursor, FilePlace, Item, Node};
+use refusals::{Reason, Refusal};
 
 mod marks;
 
@@ -58,11 +58,11 @@ pub struct Totals {
     pub kinds: Kinds,
 }
 
-// The bytes of the file by kind, or the refusal's number and place; and the totals.
+// The bytes of the file by kind, or its refusal; and the totals.
 #[derive(Clone, Copy)]
-pub enum Accounted {
-    Is(Kinds, Totals),
-    Refused(u64, usize, Totals),
+pub struct Accounted {
+    pub kinds: Result<Kinds, Refusal>,
+    pub totals: Totals,
 }
 
 // The most files that are summed.
@@ -94,9 +94,9 @@ fn block_size(file: &[u8], end: usize, at: usize) -> usize
     if first < 128 {
         return 1 + first as usize;
     }
-    match (Cursor { at: FilePlace(at) }).number(file, FilePlace(end), cursor::CUT_SHORT) {
-        Numbered::Refused(_, _) => 0,
-        Numbered::Is(n, next) => next.at.0 + n as usize - at,
+    match (Cursor { at: FilePlace(at) }).number(file, FilePlace(end), Reason::CutShort) {
+        Ok((n, next)) => next.at.0 + n as usize - at,
+        Err(_) => 0,
     }
 }
 
@@ -115,21 +115,21 @@ fn follow_size(row: Node) -> usize
     ensures { result ≡ follow_size row }
 {
     if row.reference == 1 {
-        return row.extent as usize;
+        row.extent as usize
+    } else {
+        0
     }
-    0
 }
 
 // The bytes of its inline data.
 fn inline_size(row: Node) -> usize
     ensures { result ≡ inline_size row }
 {
-    if row.contained == 0 {
-        if row.reference == 1 {
-            return row.extent as usize;
-        }
+    if row.contained == 0 && row.reference == 1 {
+        row.extent as usize
+    } else {
+        0
     }
-    0
 }
 
 // A node's own bytes, added to these.
@@ -164,10 +164,8 @@ fn in_nodes(file: &[u8], nodes: &[u64], count: usize) -> Frames
         fronts: 0,
         inline: 0,
     };
-    let mut i = 0;
-    while i < count {
+    for i in 0..count {
         sum = with_node(sum, file, rows::node_at(nodes, i));
-        i = i + 1;
     }
     sum
 }
@@ -189,10 +187,8 @@ fn in_items(items: &[u64], count: usize) -> Data
     ensures { result ≡ in_items (items_in count items.now) }
 {
     let mut sum = Data { all: 0, hidden: 0 };
-    let mut i = 0;
-    while i < count {
+    for i in 0..count {
         sum = with_item(sum, rows::item_at(items, i));
-        i = i + 1;
     }
     sum
 }
@@ -294,17 +290,26 @@ pub fn account(file: &[u8], nodes: &mut [u64], items: &mut [u64], totals: Totals
 {
     if MOST_FILES <= totals.files {
         rows::clear_all(nodes, items);
-        return Accounted::Refused(cursor::TOO_MANY_FILES, 0, totals);
+        return Accounted {
+            kinds: Err(Refusal(Reason::TooManyFiles, 0)),
+            totals,
+        };
     }
     match file::read_file(file, nodes, items) {
-        Read::Refused(n, p) => {
-            let left = add_refused(totals);
-            Accounted::Refused(n, p.0, left)
-        }
-        Read::Is(s) => {
+        Ok(s) => {
             let kinds = kinds_of(file, nodes, items, s.header_end, s.nodes, s.items);
-            let left = add(totals, kinds);
-            Accounted::Is(kinds, left)
+            let sums = add(totals, kinds);
+            Accounted {
+                kinds: Ok(kinds),
+                totals: sums,
+            }
+        }
+        Err(refusal) => {
+            let left = add_refused(totals);
+            Accounted {
+                kinds: Err(refusal),
+                totals: left,
+            }
         }
     }
 }

@@ -1,5 +1,5 @@
 // The kind of each place of a file, as a mark in a lent buffer.
-ghost use Rattle.std.specs.Prelude.{◌≡◌, ◌+◌, ◌*◌, ◌^◌, ◌≤◌, ◌<◌, min, length};
+ghost use Rattle.std.specs.Prelude.{◌≡◌, ◌+◌, ◌*◌, ◌^◌, ◌≤◌, ◌<◌, length};
 ghost use Rattle.rows.specs.Rows.{item_width, nodes_in, items_in};
 ghost use Rattle.room.specs.Room.{counted, kept};
 ghost use Rattle.room.specs.Told.{told};
@@ -9,8 +9,7 @@ ghost use Rattle.account.specs.Marks.{marked, nodes_marked, items_marked, Shows,
 
 use crate::{block_size, inline_size, meta_at};
 use cursor::{FilePlace, Item, Node};
-use file::Read;
-use room::Written;
+use refusals::{Reason, Refusal};
 
 // The nine kinds.
 pub const OF_HEADER: u8 = 0;
@@ -31,25 +30,13 @@ pub const INLINE_DATA: u8 = 7;
 
 pub const ALL_ELSE: u8 = 8;
 
-// The lesser of two places.
-fn lesser(a: usize, b: usize) -> usize
-    ensures { result ≡ min a b }
-{
-    if a < b {
-        return a;
-    }
-    b
-}
-
 // Marks the places from one up to another, as far as there are marks.
 fn fill(marks: &mut [u8], from: usize, to: usize, kind: u8)
     ensures { Becomes marks.old marks.new (spanned from to kind) }
 {
-    let end = lesser(to, marks.len());
-    let mut at = from;
-    while at < end {
+    let end = to.min(marks.len());
+    for at in from..end {
         marks[at] = kind;
-        at = at + 1;
     }
 }
 
@@ -59,9 +46,10 @@ fn contents_at(row: Node) -> usize
     ensures { result ≡ contents_at row }
 {
     if row.reference == 1 {
-        return row.target as usize;
+        row.target as usize
+    } else {
+        (row.start + row.size) as usize
     }
-    (row.start + row.size) as usize
 }
 
 // Marks the parts of a node.
@@ -101,10 +89,8 @@ fn mark_nodes(marks: &mut [u8], file: &[u8], nodes: &[u64], count: usize)
     requires { NodesInside file.now count nodes.now }
     ensures { Becomes marks.old marks.new (λ m. folded (over_node file.now) m (nodes_in count nodes.now)) }
 {
-    let mut i = 0;
-    while i < count {
+    for i in 0..count {
         mark_node(marks, file, rows::node_at(nodes, i));
-        i = i + 1;
     }
 }
 
@@ -113,10 +99,8 @@ fn mark_items(marks: &mut [u8], items: &[u64], count: usize)
     requires { count * item_width ≤ length items.now }
     ensures { Becomes marks.old marks.new (λ m. folded over_item m (items_in count items.now)) }
 {
-    let mut i = 0;
-    while i < count {
+    for i in 0..count {
         mark_item(marks, rows::item_at(items, i));
-        i = i + 1;
     }
 }
 
@@ -140,27 +124,32 @@ fn mark_rows(
 }
 
 // Reads the file and stores the kind of each of its places; 0 behind them. The answer is the number of places.
-pub fn mark(file: &[u8], nodes: &mut [u64], items: &mut [u64], marks: &mut [u8]) -> Written
+pub fn mark(
+    file: &[u8],
+    nodes: &mut [u64],
+    items: &mut [u64],
+    marks: &mut [u8],
+) -> Result<usize, Refusal>
     ensures answer { told result ≡ counted (marked nodes.old items.old file.now (length marks.old)) }
     ensures nodes { nodes.new ≡ nodes_marked nodes.old items.old file.now (length marks.old) }
     ensures items { items.new ≡ items_marked nodes.old items.old file.now (length marks.old) }
     ensures marks { marks.new ≡ kept (length marks.old) (marked nodes.old items.old file.now (length marks.old)) }
 {
     match file::read_file(file, nodes, items) {
-        Read::Refused(n, p) => {
-            room::clear_bytes(marks);
-            Written::Refused(n, p.0)
-        }
-        Read::Is(s) => {
+        Ok(s) => {
             let size = file.len();
             if marks.len() < size {
                 rows::clear_all(nodes, items);
-                room::clear_bytes(marks);
-                return Written::Refused(cursor::NO_ROOM, 0);
+                marks.fill(0);
+                return Err(Refusal(Reason::NoRoom, 0));
             }
             mark_rows(marks, file, nodes, items, s.header_end, s.nodes, s.items);
-            room::clear_bytes_from(marks, size);
-            Written::Bytes(size)
+            room::fill_from(marks, size, 0);
+            Ok(size)
+        }
+        Err(refusal) => {
+            marks.fill(0);
+            Err(refusal)
         }
     }
 }

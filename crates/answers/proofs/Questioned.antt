@@ -14,6 +14,6 @@ module _ (word tail : List ℕ) (room : ℕ) (f : List ℕ) where
   unfolding answer_of
   long-is a l = rw (lt-ltb 65536 (length f) l)
 
-  pub short-is : length f ≤ 65536 → {a b : Asked} → a ≡ b → answer_to word tail room f b ≡ answer_of word tail room f a
+  pub short-is : (a : Asked) → length f ≤ 65536 → answer_to word tail room f a ≡ answer_of word tail room f a
   unfolding answer_of
-  short-is l e = rw (e, le-ltb 65536 (length f) l)
+  short-is a l = rw (le-ltb 65536 (length f) l)

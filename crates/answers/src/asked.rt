@@ -2,7 +2,7 @@
 ghost use Rattle.std.specs.Prelude.{length};
 ghost use Rattle.io.specs.Counts.{IsPrefixLen};
 ghost use Rattle.lines.specs.Answer.{Gives};
-ghost use Rattle.answers.specs.Questions.{answer_of};
+ghost use Rattle.answers.specs.Questions.{answer_to, answer_of};
 
 use find::Field;
 use frames::Frames;
@@ -40,14 +40,11 @@ pub enum Asked {
     MendLines,
 }
 
-// Makes the answer for a file, whose line ends in the field that is lent.
-pub fn make(asked: Asked, word: &[u8], file: &[u8], tail: &[u8], text: &mut [u8]) -> Made
-    ensures prefix_len { IsPrefixLen result.size text.new }
-    ensures gives { Gives (length text.old) result text.new (answer_of word.now tail.now (length text.old) file.now asked) }
+// Makes the answer for a file that is not too long.
+#[tactic(auto, unfolding(crate::specs::Questions::answer_to))]
+fn make_short(asked: Asked, word: &[u8], file: &[u8], tail: &[u8], text: &mut [u8]) -> Made
+    ensures { Gives (length text.old) result text.new (answer_to word.now tail.now (length text.old) file.now asked) }
 {
-    if file.len() > program::LONGEST {
-        return lines::refuse_long(text, tail);
-    }
     match asked {
         Asked::Sheet => outputs::make_sheet(file, false, tail, text),
         Asked::Sheet2 => outputs::make_sheet(file, true, tail, text),
@@ -78,4 +75,15 @@ pub fn make(asked: Asked, word: &[u8], file: &[u8], tail: &[u8], text: &mut [u8]
         Asked::Mended => outputs::make_mended(file, text),
         Asked::MendLines => outputs::make_mend_lines(file, text),
     }
+}
+
+// Makes the answer for a file, whose line ends in the field that is lent.
+pub fn make(asked: Asked, word: &[u8], file: &[u8], tail: &[u8], text: &mut [u8]) -> Made
+    ensures prefix_len { IsPrefixLen result.size text.new }
+    ensures gives { Gives (length text.old) result text.new (answer_of word.now tail.now (length text.old) file.now asked) }
+{
+    if file.len() > program::LONGEST {
+        return lines::refuse_long(text, tail);
+    }
+    make_short(asked, word, file, tail, text)
 }

@@ -3,5 +3,5 @@
 use Rattle.std.specs.Prelude.{cond, ℕ, min, eqb}
 
 -- the worse of two: 1, then 2, then 3, then 0
-unfoldable pub worst : ℕ → ℕ → ℕ
+abbrev pub worst : ℕ → ℕ → ℕ
 worst a b = cond (eqb a 0) b (cond (eqb b 0) a (min a b))

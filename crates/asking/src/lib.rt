@@ -126,12 +126,9 @@ fn answer_file(
     i: usize,
 ) -> Result<u64, Unwritten> {
     let mut name = io::buffer();
-    match program::arg(rt, i, &mut name) {
-        Ok(n) => answer_named(rt, asked, mode, word, &name[..n]),
-        Err(error) => {
-            console::failed(rt, b"a file's name", error);
-            Ok(1)
-        }
+    match console::arg_at(rt, i, b"a file's name", &mut name) {
+        Some(n) => answer_named(rt, asked, mode, word, &name[..n]),
+        None => Ok(1),
     }
 }
 
@@ -140,12 +137,12 @@ pub fn worse(a: u64, b: u64) -> u64
     ensures { result ≡ worst a b }
 {
     if a == 0 {
-        return b;
+        b
+    } else if b == 0 {
+        a
+    } else {
+        a.min(b)
     }
-    if b == 0 {
-        return a;
-    }
-    if a < b { a } else { b }
 }
 
 // Answers for the files that the arguments from `first` on name.

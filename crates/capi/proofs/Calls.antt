@@ -20,8 +20,8 @@ use Rattle.shelf.specs.Runs as runs
 use Rattle.shelf.specs.Runs.{Call, getting, next}
 use Rattle.shelf.specs.Words.{shelf_of, words_with}
 use Rattle.shelf.specs.Told.{told_outcome, told_got}
-use Rattle.shelf.specs.declared.Outcome as shelf
-use Rattle.shelf.specs.declared.Got.{Got}
+use Rattle.refusals.specs.declared.Refusal.{Refusal}
+use Rattle.std.proofs.Common as std
 use Rattle.promises.specs.Promises.{Question, account_bytes, about, Outcome, saying, one_value, lent, reads, outcome, EachAlike}
 use Rattle.promises.specs.Shelf as page
 use Rattle.promises.specs.Shelf.{Left, no_value, values, get-words}
@@ -49,22 +49,22 @@ module _ (q : Wanted → (row : ℕ) → Question) (kind number : ℕ) (name : L
       by (suc k) n h = h
 
 -- the account, with totals in words
-pub account-leaves : {nodes items f answer' t u totals' : List ℕ} {before after : Totals} (totals answer : List ℕ) (r : Accounted) → before ≡ totals_of totals
+pub account-leaves : {nodes items f answer' t u totals' : List ℕ} {before : Totals} (totals answer : List ℕ) (r : Accounted) → before ≡ totals_of totals
     → (told r ≡ accounted.answer before nodes items f) ×
     ((totals_in r ≡ totals_after before nodes items f) × ((t ≡ nodes_after before nodes items f) × (u ≡ items_after before nodes items f)))
-    → after ≡ totals_in r → totals' ≡ stored totals (total_words after) → answer' ≡ fit (length answer) (saying kind_words (told r)) → LeavesTotals
+    → totals' ≡ stored totals (total_words (totals_in r)) → answer' ≡ fit (length answer) (saying kind_words (told r)) → LeavesTotals
     f nodes items t u totals totals' answer answer'
-account-leaves {nodes} {items} {f} {answer'} {t} {u} totals answer r b k a s e = record {
+account-leaves {nodes} {items} {f} {answer'} {t} {u} totals answer r b k s e = record {
   words = total_words (totals_in r);
   leaves = subst (λ v. Leaves (account_bytes v) f (nodes ∷ items ∷ []) (t ∷ u ∷ total_words (totals_in r) ∷ []) answer answer') b
       (leaves answer (account _ r k.0 k.1.0 k.1.1.0 k.1.1.1) e);
-  in_totals = s ∙ ap (λ v. stored totals (total_words v)) a;
+  in_totals = s;
 }
 
 -- ---- the shelf
 
 -- put and drop, which answer no value
-pub shelf-leaves : (c : Call) → values c ≡ no_value → {cards cards' text text' answer' : List ℕ} (answer : List ℕ) (r : shelf.Outcome)
+pub shelf-leaves : (c : Call) → values c ≡ no_value → {cards cards' text text' answer' : List ℕ} (answer : List ℕ) (r : std.Result (Unit {0}) Refusal)
     → (told_outcome r ≡ runs.answer c (shelf_of cards text)) × ((cards' ≡ words_with cards (next c (shelf_of cards text)).cards) × (text' ≡ (next c (shelf_of cards text)).text))
     → answer' ≡ fit (length answer) (saying no_value (told_outcome r)) → LeavesShelf c cards cards' text text' answer answer'
 unfolding page.leaves
@@ -75,7 +75,7 @@ shelf-leaves c v {cards} {text = text} answer r k e = record {
 }
 
 -- get
-pub sheet_leaves : (l : Label) {cards text out' answer' : List ℕ} (out answer : List ℕ) (r : Got)
+pub sheet_leaves : (l : Label) {cards text out' answer' : List ℕ} (out answer : List ℕ) (r : std.Result ℕ Refusal)
     → (told_got r ≡ counted (runs.answer (getting l (length out)) (shelf_of cards text))) × (out' ≡ kept (length out) (runs.answer (getting l (length out)) (shelf_of cards text)))
     → answer' ≡ fit (length answer) (saying one_value (told_got r)) → LeavesSheet l cards text out out' answer answer'
 unfolding page.leaves

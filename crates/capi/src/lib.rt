@@ -97,7 +97,7 @@ pub fn xmf_voice_count(
 )
     ensures { Leaves (count_for item_row channel resource) file.now (nodes.old ∷ items.old ∷ []) (nodes.new ∷ items.new ∷ []) answer.old answer.new }
 {
-    words::put_counted(
+    words::put_number(
         answer,
         description::count_for(file, nodes, items, item_row, channel, resource),
     );
@@ -107,7 +107,7 @@ pub fn xmf_voice_count(
 pub fn xmf_judge(file: &[u8], nodes: &mut [u64], items: &mut [u64], answer: &mut [u64])
     ensures { Leaves judge_mobile file.now (nodes.old ∷ items.old ∷ []) (nodes.new ∷ items.new ∷ []) answer.old answer.new }
 {
-    words::put_judged(answer, mobile::judge(file, nodes, items));
+    words::put_number(answer, mobile::judge(file, nodes, items));
 }
 
 // Counts the file's bytes by kind. Answer: the nine counts. `totals` goes in and comes back: files, refused, nine sums; words that are missing are 0 and are not stored.
@@ -122,7 +122,7 @@ pub fn xmf_account(
 {
     let before = words::read_totals(totals);
     let said = account::account(file, nodes, items, before);
-    words::put_totals(totals, words::totals_in(said));
+    words::put_totals(totals, said.totals);
     words::put_accounted(answer, said);
 }
 
@@ -136,7 +136,7 @@ pub fn xmf_write_sheet(
 )
     ensures { Leaves write_sheet file.now (nodes.old ∷ items.old ∷ sheet.old ∷ []) (nodes.new ∷ items.new ∷ sheet.new ∷ []) answer.old answer.new }
 {
-    words::put_written(answer, sheet::write_sheet(file, nodes, items, sheet));
+    words::put_size(answer, sheet::write_sheet(file, nodes, items, sheet));
 }
 
 // Writes the support sheet in its second edition. Answer: bytes written.
@@ -149,7 +149,7 @@ pub fn xmf_write_sheet2(
 )
     ensures { Leaves write_sheet2 file.now (nodes.old ∷ items.old ∷ sheet.old ∷ []) (nodes.new ∷ items.new ∷ sheet.new ∷ []) answer.old answer.new }
 {
-    words::put_written(answer, sheet::write_sheet2(file, nodes, items, sheet));
+    words::put_size(answer, sheet::write_sheet2(file, nodes, items, sheet));
 }
 
 // Writes the file anew with a title as the data of an item row. Answer: bytes written. The new file holds the hidden bytes of the old one.
@@ -164,7 +164,7 @@ pub fn xmf_correct_title(
 )
     ensures { Leaves (correct_title row title.now) file.now (nodes.old ∷ items.old ∷ out.old ∷ []) (nodes.new ∷ items.new ∷ out.new ∷ []) answer.old answer.new }
 {
-    words::put_written(
+    words::put_size(
         answer,
         title::correct_title(file, nodes, items, row, title, out),
     );
@@ -191,28 +191,28 @@ pub fn xmf_mend(
 pub fn xmf_utf16_to_utf8(units: &[u8], text: &mut [u8], answer: &mut [u64])
     ensures { Leaves (to_utf8 units.now) [] (text.old ∷ []) (text.new ∷ []) answer.old answer.new }
 {
-    words::put_written(answer, utf16::to_utf8(units, text));
+    words::put_size(answer, utf16::to_utf8(units, text));
 }
 
 // Converts UTF-8 into UTF-16, high byte first. Answer: bytes written.
 pub fn xmf_utf8_to_utf16(text: &[u8], units: &mut [u8], answer: &mut [u64])
     ensures { Leaves (to_utf16 text.now) [] (units.old ∷ []) (units.new ∷ []) answer.old answer.new }
 {
-    words::put_written(answer, utf16::to_utf16(text, units));
+    words::put_size(answer, utf16::to_utf16(text, units));
 }
 
 // Moves a sheet to the other edition. Answer: bytes written.
 pub fn xmf_move_sheet(sheet: &[u8], out: &mut [u8], answer: &mut [u64])
     ensures { Leaves (move_sheet sheet.now) [] (out.old ∷ []) (out.new ∷ []) answer.old answer.new }
 {
-    words::put_written(answer, mover::move_sheet(sheet, out));
+    words::put_size(answer, mover::move_sheet(sheet, out));
 }
 
 // Counts the frames of an ID3v2.4 tag. Answer: how many there are. It walks what it is given, hidden contents too, and stands outside demand 3.
 pub fn xmf_id3_count(tag: &[u8], answer: &mut [u64])
     ensures { Leaves (count_frames tag.now) [] [] [] answer.old answer.new }
 {
-    words::put_frame_count(answer, id3::frame_count(tag));
+    words::put_size(answer, id3::frame_count(tag));
 }
 
 // Gives the tag's frame of a number, from 0 in file order. Answer: the name's four bytes as one number, the first one highest; its contents' place in the tag, and length.
@@ -252,7 +252,7 @@ pub fn xmf_shelf_get(
 )
     ensures { LeavesSheet (label desk call boat) cards.now text.now out.old out.new answer.old answer.new }
 {
-    words::put_got(answer, shelf::get_words(cards, text, desk, call, boat, out));
+    words::put_size(answer, shelf::get_words(cards, text, desk, call, boat, out));
 }
 
 // Drops a sheet from a shelf: its card and its part of the text are cleared. Answer: no value.

@@ -6,7 +6,8 @@ ghost use Rattle.shelf.specs.Rows.{row_of};
 ghost use Rattle.shelf.specs.Words.{cards_of, words_with};
 ghost use Rattle.shelf.specs.Told.{told_outcome, told_got, ChangesIn, Gets};
 
-use shelf::{Card, Got, Outcome};
+use refusals::Refusal;
+use shelf::Card;
 
 // The most cards that the array takes.
 const MOST: usize = 20;
@@ -15,8 +16,7 @@ const MOST: usize = 20;
 fn count(words: usize) -> usize
     ensures { result ≡ min (words / 4) 20 }
 {
-    let n = words / 4;
-    if n < MOST { n } else { MOST }
+    MOST.min(words / 4)
 }
 
 // Card i of those that are in words, or a fresh one.
@@ -50,11 +50,8 @@ fn load_row(words: &[u64]) -> [Card; 20]
         boat: 0,
         length: 0,
     }; 20];
-    let mut i = 0usize;
-    while i < 20 {
-        let c = card_in(words, i);
-        row[i] = c;
-        i = i + 1;
+    for i in 0..20 {
+        row[i] = card_in(words, i);
     }
     row
 }
@@ -64,12 +61,10 @@ fn store_row(words: &mut [u64], row: [Card; 20])
     ensures { words.new ≡ words_with words.old (take (min (length words.old / 4) 20) row) }
 {
     let n = count(words.len());
-    let mut i = 0usize;
-    while i < n {
+    for i in 0..n {
         let c = row[i];
         let four = [c.desk, c.call, c.boat, c.length];
         room::store(words, i * 4, &four);
-        i = i + 1;
     }
 }
 
@@ -83,7 +78,7 @@ fn put_row(
     call: u64,
     boat: u64,
     sheet: &[u8],
-) -> Outcome
+) -> Result<(), Refusal>
     requires { n ≡ min (length words.old / 4) 20 }
     ensures { ChangesIn words.old (putting (label desk call boat) sheet.now) (row_of (take n row) text.old) (told_outcome result) words.new text.new }
 {
@@ -102,7 +97,7 @@ fn get_row(
     call: u64,
     boat: u64,
     out: &mut [u8],
-) -> Got
+) -> Result<usize, Refusal>
     requires { n ≤ 20 }
     ensures { Gets (label desk call boat) (row_of (take n row) text.now) (told_got result) out.old out.new }
 {
@@ -119,7 +114,7 @@ fn drop_row(
     desk: u64,
     call: u64,
     boat: u64,
-) -> Outcome
+) -> Result<(), Refusal>
     requires { n ≡ min (length words.old / 4) 20 }
     ensures { ChangesIn words.old (dropping (label desk call boat)) (row_of (take n row) text.old) (told_outcome result) words.new text.new }
 {
@@ -137,7 +132,7 @@ pub fn put(
     call: u64,
     boat: u64,
     sheet: &[u8],
-) -> Outcome
+) -> Result<(), Refusal>
     ensures { ChangesIn words.old (putting (label desk call boat) sheet.now) (row_of (take 20 (cards_of words.old)) text.old) (told_outcome result) words.new text.new }
 {
     let n = count(words.len());
@@ -145,7 +140,14 @@ pub fn put(
     put_row(row, n, words, text, desk, call, boat, sheet)
 }
 
-pub fn get(words: &[u64], text: &[u8], desk: u64, call: u64, boat: u64, out: &mut [u8]) -> Got
+pub fn get(
+    words: &[u64],
+    text: &[u8],
+    desk: u64,
+    call: u64,
+    boat: u64,
+    out: &mut [u8],
+) -> Result<usize, Refusal>
     ensures { Gets (label desk call boat) (row_of (take 20 (cards_of words.now)) text.now) (told_got result) out.old out.new }
 {
     let n = count(words.len());
@@ -153,7 +155,13 @@ pub fn get(words: &[u64], text: &[u8], desk: u64, call: u64, boat: u64, out: &mu
     get_row(row, n, text, desk, call, boat, out)
 }
 
-pub fn drop(words: &mut [u64], text: &mut [u8], desk: u64, call: u64, boat: u64) -> Outcome
+pub fn drop(
+    words: &mut [u64],
+    text: &mut [u8],
+    desk: u64,
+    call: u64,
+    boat: u64,
+) -> Result<(), Refusal>
     ensures { ChangesIn words.old (dropping (label desk call boat)) (row_of (take 20 (cards_of words.old)) text.old) (told_outcome result) words.new text.new }
 {
     let n = count(words.len());

@@ -18,7 +18,7 @@ ghost use Rattle.std.specs.Prelude.{◌≡◌, ◌≤◌, length, IfOk};
 
 use casetext::STALE;
 use said::put_unless;
-use std::io::{Read, Result};
+use std::io::Result;
 
 // The most times that standard input is read.
 const MOST_READS: usize = 1000;
@@ -63,21 +63,17 @@ fn lend(
 fn ask_tables(line: &[u8], file: &[u8], bytes: &mut [u8], out: &mut [u8]) -> usize {
     let mut nodes = casetext::node_buffer();
     let mut items = casetext::item_buffer();
-    let question = casetext::field(line, 0);
-    if casetext::is_same(question, b"shelf") {
-        return shelves::shelf(line, &mut nodes, bytes, out);
+    match casetext::field(line, 0) {
+        b"shelf" => shelves::shelf(line, &mut nodes, bytes, out),
+        b"bytessum" => sums::sum(line, &mut nodes, &mut items, out),
+        _ => lend(line, file, &mut nodes, &mut items, bytes, out),
     }
-    if casetext::is_same(question, b"bytessum") {
-        return sums::sum(line, &mut nodes, &mut items, out);
-    }
-    lend(line, file, &mut nodes, &mut items, bytes, out)
 }
 
 // Answers a case; `given` is its second field.
 fn answer(line: &[u8], given: &[u8], bytes: &mut [u8], out: &mut [u8]) -> usize {
-    let question = casetext::field(line, 0);
-    if question.len() == 1 {
-        return printed::ask(line, question[0], given, bytes, out);
+    if let [letter] = casetext::field(line, 0) {
+        return printed::ask(line, *letter, given, bytes, out);
     }
     let end = texts::ask(line, given, bytes, out);
     if end > 0 {
@@ -115,28 +111,8 @@ fn to_front(text: &mut [u8], from: usize, end: usize) -> usize
     requires { (from ≤ end) × (end ≤ length text.old) }
     ensures { result ≤ length text.new }
 {
-    let mut i = 0;
-    while i < end - from {
-        text[i] = text[from + i];
-        i += 1;
-    }
-    i
-}
-
-// Reads until the buffer is full or the input ends, and answers how many bytes came.
-fn read_full(input: &mut impl Read, buf: &mut [u8]) -> Result<usize>
-    ensures counted { IfOk result (λ n. n ≤ length buf.new) }
-    ensures long { length buf.new ≡ length buf.old }
-{
-    let mut done = 0;
-    while done < buf.len() {
-        let more = input.read(&mut buf[done..])?;
-        if more == 0 {
-            return Ok(done);
-        }
-        done += more;
-    }
-    Ok(done)
+    text.copy_within(from..end, 0);
+    end - from
 }
 
 // Reads more behind the first bytes, runs what lines there are, and keeps the rest; answers how many bytes that is.
@@ -145,7 +121,7 @@ fn run_more(rt: &(impl Input + Print), text: &mut [u8], kept: usize) -> Result<u
     ensures counted { IfOk result (λ n. n ≤ length text.new) }
     ensures long { length text.new ≡ length text.old }
 {
-    let end = kept + read_full(&mut rt.reader(), &mut text[kept..])?;
+    let end = kept + program::read_input(&mut rt.reader(), &mut text[kept..])?;
     let at = run_lines(rt, &text[0..end])?;
     Ok(to_front(text, at, end))
 }
@@ -154,10 +130,8 @@ fn run_more(rt: &(impl Input + Print), text: &mut [u8], kept: usize) -> Result<u
 fn main(rt: HostRuntime) -> Result<()> {
     let mut text = casetext::text_buffer();
     let mut kept = 0;
-    let mut left = MOST_READS;
-    while left > 0 {
+    for _ in 0..MOST_READS {
         kept = run_more(&rt, &mut text, kept)?;
-        left -= 1;
     }
     Ok(())
 }

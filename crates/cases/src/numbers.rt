@@ -14,7 +14,7 @@ fn put_unless_part(
     if from <= file.len() {
         if size as usize <= file.len() - from {
             let end = from + size as usize;
-            if casetext::is_same(part, &file[from..end]) {
+            if part == &file[from..end] {
                 return at;
             }
         }
@@ -41,7 +41,7 @@ fn resolve(
 // Judges a file.
 fn verdict(file: &[u8], nodes: &mut [u64], items: &mut [u64], out: &mut [u8]) -> usize {
     let mut said = [0u64; 3];
-    words::put_judged(&mut said, mobile::judge(file, nodes, items));
+    words::put_number(&mut said, mobile::judge(file, nodes, items));
     put_values(out, &said)
 }
 
@@ -51,7 +51,7 @@ fn count(line: &[u8], file: &[u8], nodes: &mut [u64], items: &mut [u64], out: &m
     let row = casetext::read_number(line, 4, usize::MAX);
     let channel = casetext::read_number(line, 5, usize::MAX) as u64;
     let resource = casetext::read_number(line, 6, usize::MAX) as u64;
-    words::put_counted(
+    words::put_number(
         &mut said,
         description::count_for(file, nodes, items, row, channel, resource),
     );
@@ -74,18 +74,11 @@ pub fn ask(
     items: &mut [u64],
     out: &mut [u8],
 ) -> usize {
-    let question = casetext::field(line, 0);
-    if casetext::is_same(question, b"resolve") {
-        return resolve(line, file, nodes, items, out);
+    match casetext::field(line, 0) {
+        b"resolve" => resolve(line, file, nodes, items, out),
+        b"verdict" => verdict(file, nodes, items, out),
+        b"count" => count(line, file, nodes, items, out),
+        b"bytes" => bytes(file, nodes, items, out),
+        _ => 0,
     }
-    if casetext::is_same(question, b"verdict") {
-        return verdict(file, nodes, items, out);
-    }
-    if casetext::is_same(question, b"count") {
-        return count(line, file, nodes, items, out);
-    }
-    if casetext::is_same(question, b"bytes") {
-        return bytes(file, nodes, items, out);
-    }
-    0
 }

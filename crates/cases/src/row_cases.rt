@@ -1,6 +1,7 @@
 // The cases of `tree`, `find` and `findown`, whose answers have rows.
 use crate::said::{is_refusal, put_head, put_unless, word};
-use find::Found;
+use cursor::Item;
+use refusals::Refusal;
 
 // Puts a version, which is in hundredths, as `1.01`.
 fn put_version(out: &mut [u8], at: usize, version: u64) -> usize {
@@ -76,7 +77,7 @@ fn find_standard(
     items: &mut [u64],
     row: usize,
     number: u64,
-) -> Found {
+) -> Result<(usize, Item), Refusal> {
     if own {
         return find::find_own_standard(file, nodes, items, row, number);
     }
@@ -91,7 +92,7 @@ fn find_custom(
     items: &mut [u64],
     row: usize,
     name: &[u8],
-) -> Found {
+) -> Result<(usize, Item), Refusal> {
     if own {
         return find::find_own_custom(file, nodes, items, row, name);
     }
@@ -99,9 +100,15 @@ fn find_custom(
 }
 
 // Finds a field: `S` and its number, or `C` and its name.
-fn find_field(own: bool, line: &[u8], file: &[u8], nodes: &mut [u64], items: &mut [u64]) -> Found {
+fn find_field(
+    own: bool,
+    line: &[u8],
+    file: &[u8],
+    nodes: &mut [u64],
+    items: &mut [u64],
+) -> Result<(usize, Item), Refusal> {
     let row = casetext::read_number(line, 4, usize::MAX);
-    if casetext::is_same(casetext::field(line, 5), b"S") {
+    if casetext::field(line, 5) == b"S".as_slice() {
         let number = casetext::read_number(line, 6, usize::MAX) as u64;
         return find_standard(own, file, nodes, items, row, number);
     }
@@ -132,15 +139,10 @@ pub fn ask(
     items: &mut [u64],
     out: &mut [u8],
 ) -> usize {
-    let question = casetext::field(line, 0);
-    if casetext::is_same(question, b"tree") {
-        return tree(file, nodes, items, out);
+    match casetext::field(line, 0) {
+        b"tree" => tree(file, nodes, items, out),
+        b"find" => find(false, line, file, nodes, items, out),
+        b"findown" => find(true, line, file, nodes, items, out),
+        _ => 0,
     }
-    if casetext::is_same(question, b"find") {
-        return find(false, line, file, nodes, items, out);
-    }
-    if casetext::is_same(question, b"findown") {
-        return find(true, line, file, nodes, items, out);
-    }
-    0
 }

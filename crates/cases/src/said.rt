@@ -5,10 +5,7 @@ ghost use Rattle.std.specs.Prelude.{◌≡◌, not, eqb, get_or};
 pub fn word(said: &[u64], i: usize) -> u64
     ensures { result ≡ get_or said.now i 0 }
 {
-    if i < said.len() {
-        return said[i];
-    }
-    0
+    if i < said.len() { said[i] } else { 0 }
 }
 
 // Whether it is a refusal.

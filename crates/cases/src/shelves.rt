@@ -2,16 +2,21 @@
 // cards lent as structs.
 use crate::cards;
 use crate::said::{is_refusal, put_front, put_short, word};
-use shelf::{Got, Outcome};
+use refusals::Refusal;
 
 // The number in a part of an operation; colons separate the parts.
 fn number(op: &[u8], index: usize) -> u64 {
-    let number = casetext::read_decimal(casetext::part(op, b':', index));
-    number.value as u64
+    casetext::read_decimal(casetext::part(op, b':', index)).unwrap_or(0) as u64
 }
 
 // Puts a sheet.
-fn put(structs: bool, op: &[u8], row: &mut [u64], text: &mut [u8], sheet: &[u8]) -> Outcome {
+fn put(
+    structs: bool,
+    op: &[u8],
+    row: &mut [u64],
+    text: &mut [u8],
+    sheet: &[u8],
+) -> Result<(), Refusal> {
     let desk = number(op, 1);
     let call = number(op, 2);
     let boat = number(op, 3);
@@ -38,7 +43,13 @@ fn run_put(
 }
 
 // Gets a sheet into the lent bytes.
-fn get(structs: bool, op: &[u8], row: &[u64], text: &[u8], bytes: &mut [u8]) -> Got {
+fn get(
+    structs: bool,
+    op: &[u8],
+    row: &[u64],
+    text: &[u8],
+    bytes: &mut [u8],
+) -> Result<usize, Refusal> {
     let desk = number(op, 1);
     let call = number(op, 2);
     let boat = number(op, 3);
@@ -72,7 +83,7 @@ fn get_in(
     if room > bytes.len() {
         return at;
     }
-    words::put_got(&mut said, get(structs, op, row, text, &mut bytes[0..room]));
+    words::put_size(&mut said, get(structs, op, row, text, &mut bytes[0..room]));
     put_got(out, at, &said, bytes)
 }
 
@@ -82,7 +93,7 @@ fn run_get(structs: bool, op: &[u8], row: &[u64], text: &[u8], out: &mut [u8], a
 }
 
 // Drops a sheet.
-fn drop(structs: bool, op: &[u8], row: &mut [u64], text: &mut [u8]) -> Outcome {
+fn drop(structs: bool, op: &[u8], row: &mut [u64], text: &mut [u8]) -> Result<(), Refusal> {
     let desk = number(op, 1);
     let call = number(op, 2);
     let boat = number(op, 3);
@@ -121,7 +132,7 @@ fn set_text(op: &[u8], text: &mut [u8]) {
     let k = decoded.count;
     let at = number(op, 1) as usize;
     if k <= room::room_at(text.len(), at) {
-        room::store_bytes(text, at, &bytes[..k]);
+        room::store(text, at, &bytes[..k]);
     }
 }
 
@@ -142,25 +153,20 @@ fn run(
     out: &mut [u8],
     at: usize,
 ) -> usize {
-    let name = casetext::part(op, b':', 0);
-    if casetext::is_same(name, b"card") {
-        set_card(op, row);
-        return at;
+    match casetext::part(op, b':', 0) {
+        b"card" => {
+            set_card(op, row);
+            at
+        }
+        b"text" => {
+            set_text(op, text);
+            at
+        }
+        b"put" => run_put(structs, op, row, text, out, at),
+        b"get" => run_get(structs, op, row, text, out, at),
+        b"drop" => run_drop(structs, op, row, text, out, at),
+        _ => dump(row, text, out, at),
     }
-    if casetext::is_same(name, b"text") {
-        set_text(op, text);
-        return at;
-    }
-    if casetext::is_same(name, b"put") {
-        return run_put(structs, op, row, text, out, at);
-    }
-    if casetext::is_same(name, b"get") {
-        return run_get(structs, op, row, text, out, at);
-    }
-    if casetext::is_same(name, b"drop") {
-        return run_drop(structs, op, row, text, out, at);
-    }
-    dump(row, text, out, at)
 }
 
 // Runs the operations of a line: they are its fields from 3 on.
@@ -191,8 +197,8 @@ fn run_fresh(
     out: &mut [u8],
     start: usize,
 ) -> usize {
-    room::clear(row);
-    room::clear_bytes(text);
+    row.fill(0);
+    text.fill(0);
     run_all(structs, line, row, text, out, start)
 }
 

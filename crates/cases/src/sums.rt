@@ -3,11 +3,9 @@ use crate::said::{is_refusal, put_short};
 
 // Reads decimal numbers with commas between them, one for each word; 0 where there is none.
 fn read_words(digits: &[u8], words: &mut [u64]) {
-    let mut i = 0;
-    while i < words.len() {
+    for i in 0..words.len() {
         let number = casetext::read_decimal(casetext::part(digits, b',', i));
-        words[i] = number.value as u64;
-        i += 1;
+        words[i] = number.unwrap_or(0) as u64;
     }
 }
 
@@ -35,7 +33,7 @@ fn add(
 ) -> usize {
     let mut said = [0u64; 11];
     let answer = account::account(file, nodes, items, words::read_totals(totals));
-    words::put_totals(totals, words::totals_in(answer));
+    words::put_totals(totals, answer.totals);
     words::put_accounted(&mut said, answer);
     put_counts(out, at, &said)
 }
@@ -50,7 +48,7 @@ fn add_field(
     out: &mut [u8],
     at: usize,
 ) -> usize {
-    if casetext::field(line, index).len() == 0 {
+    if casetext::field(line, index).is_empty() {
         return at;
     }
     let mut file = io::large_buffer();
@@ -67,10 +65,8 @@ fn add_all(
     out: &mut [u8],
 ) -> usize {
     let mut end = casetext::put(out, 0, b"ok");
-    let mut i = 4;
-    while i < 64 {
+    for i in 4..64 {
         end = add_field(line, i, nodes, items, totals, out, end);
-        i += 1;
     }
     end
 }

@@ -26,7 +26,7 @@ fn moved(line: &[u8], given: &[u8], bytes: &mut [u8], out: &mut [u8]) -> usize {
 // Counts the frames of a tag.
 fn frame_count(tag: &[u8], out: &mut [u8]) -> usize {
     let mut said = [0u64; 3];
-    words::put_frame_count(&mut said, id3::frame_count(tag));
+    words::put_size(&mut said, id3::frame_count(tag));
     put_values(out, &said)
 }
 
@@ -58,21 +58,12 @@ fn frame(line: &[u8], tag: &[u8], out: &mut [u8]) -> usize {
 
 // Answers a case, or 0 where it is of another question.
 pub fn ask(line: &[u8], given: &[u8], bytes: &mut [u8], out: &mut [u8]) -> usize {
-    let question = casetext::field(line, 0);
-    if casetext::is_same(question, b"utf8") {
-        return utf8(line, given, bytes, out);
+    match casetext::field(line, 0) {
+        b"utf8" => utf8(line, given, bytes, out),
+        b"utf16" => utf16(line, given, bytes, out),
+        b"move" => moved(line, given, bytes, out),
+        b"id3" => frame_count(given, out),
+        b"id3frame" => frame(line, given, out),
+        _ => 0,
     }
-    if casetext::is_same(question, b"utf16") {
-        return utf16(line, given, bytes, out);
-    }
-    if casetext::is_same(question, b"move") {
-        return moved(line, given, bytes, out);
-    }
-    if casetext::is_same(question, b"id3") {
-        return frame_count(given, out);
-    }
-    if casetext::is_same(question, b"id3frame") {
-        return frame(line, given, out);
-    }
-    0
 }

@@ -1,11 +1,11 @@
 // The cases of `sheet`, `sheet2`, `title` and `mend`, whose answers are bytes in lent room.
 use crate::said::{is_refusal, put_front, put_head, word};
-use room::Written;
+use refusals::Refusal;
 
 // Puts an answer, with the bytes that were written.
-pub fn put_written(out: &mut [u8], answer: Written, bytes: &[u8]) -> usize {
+pub fn put_written(out: &mut [u8], answer: Result<usize, Refusal>, bytes: &[u8]) -> usize {
     let mut said = [0u64; 3];
-    words::put_written(&mut said, answer);
+    words::put_size(&mut said, answer);
     let end = put_head(out, &said);
     if is_refusal(&said) {
         return end;
@@ -108,18 +108,11 @@ pub fn ask(
     bytes: &mut [u8],
     out: &mut [u8],
 ) -> usize {
-    let question = casetext::field(line, 0);
-    if casetext::is_same(question, b"sheet") {
-        return sheet(line, file, nodes, items, bytes, out);
+    match casetext::field(line, 0) {
+        b"sheet" => sheet(line, file, nodes, items, bytes, out),
+        b"sheet2" => sheet2(line, file, nodes, items, bytes, out),
+        b"title" => title(line, file, nodes, items, bytes, out),
+        b"mend" => mend(line, file, nodes, items, bytes, out),
+        _ => 0,
     }
-    if casetext::is_same(question, b"sheet2") {
-        return sheet2(line, file, nodes, items, bytes, out);
-    }
-    if casetext::is_same(question, b"title") {
-        return title(line, file, nodes, items, bytes, out);
-    }
-    if casetext::is_same(question, b"mend") {
-        return mend(line, file, nodes, items, bytes, out);
-    }
-    0
 }

@@ -1,17 +1,13 @@
 -- Laws of the definitions that the contracts cite. Assumes nothing.
-use mathlib.Core.Bool.{false, false≢true}
 use mathlib.Core.List.{List, [], ◌∷◌, ◌++◌}
 use mathlib.Core.Path.{◌≡◌, refl, sym, ap, ap₂, ◌∙◌, subst}
-use Prim.Native.Nat.{ℕ, zero, suc, ◌+◌, ◌-◌, ◌*◌, ◌/◌, ◌≤◌, ◌<◌, min}
-use native.Mathlib.Nat.{mul-zero, le_trans, mul-le-mul_right, div-mul-le_self, le-div_iff_mul-le}
+use Prim.Native.Nat.{ℕ, zero, suc, ◌+◌, ◌-◌, ◌*◌, ◌≤◌, ◌<◌, min}
 use native.Mathlib.Numerals.{add-one}
 use native.Mathlib.Omega.{arith}
 use native.Mathlib.Decide.{dec_lt}
-use lib.ListN.{length, take, drop, get_or, set, drop_of_length-le, length-take, length-drop}
-use lib.Seq.{sets, length-sets, take-suc, take_all, length-take-le, drop-cons, get_or-set_same, get_or-set_other, get_or-take, get_or-drop}
-use borrow.Author.Count.{below_more}
-use borrow.Author.Tests.{lt-ltb, le-ltb}
-use Rattle.casetext.specs.Text.{FirstMark, Ends, Puts, digit_of, value_from, byte_at, SpellsBytes}
+use lib.ListN.{length, take, drop, get_or, set, length-take, length-drop}
+use lib.Seq.{sets, length-sets, take-suc, take_all, length-take-le, drop-cons, get_or-take, get_or-drop}
+use Rattle.casetext.specs.Text.{FirstMark, Ends, Puts, digit_of, value_from}
 
 -- a place within the buffer and not before `at` is an end
 pub ends : (out : List ℕ) (at r : ℕ) → r ≤ length out → min at (length out) ≤ r → Ends out at r
@@ -61,28 +57,6 @@ put-more l at bytes i {out} {out'} {end} {r} h q a b =
 pub put_all : (l : List ℕ) (at : ℕ) (bytes : List ℕ) (i : ℕ) {out : List ℕ} {r : ℕ} → length bytes ≤ i → Puts l out at (take i bytes) r → Puts l out at bytes r
 put_all l at bytes i {out} {r} h a = subst (λ v. Puts l out at v r) (take_all i bytes h) a
 
--- what a byte is worth as a hex digit, range by range
-pub digit_low : (b : ℕ) → b < 48 → digit_of b ≡ 16
-digit_low b h = simp (lt-ltb b 48 h)
-
-pub digit_decimal : (b : ℕ) → 48 ≤ b → b < 58 → digit_of b ≡ b - 48
-digit_decimal b g h = simp (le-ltb b 48 g, lt-ltb b 58 h)
-
-pub digit_between : (b : ℕ) → 58 ≤ b → b < 97 → digit_of b ≡ 16
-digit_between b g h =
-    let i : 48 ≤ b = omega arith in
-    simp (le-ltb b 48 i, le-ltb b 58 g, lt-ltb b 97 h)
-
-pub digit_letter : (b : ℕ) → 97 ≤ b → b < 103 → digit_of b ≡ b - 87
-digit_letter b g h =
-    let i : 48 ≤ b = omega arith in let j : 58 ≤ b = omega arith in
-    simp (le-ltb b 48 i, le-ltb b 58 j, le-ltb b 97 g, lt-ltb b 103 h)
-
-pub digit_high : (b : ℕ) → 103 ≤ b → digit_of b ≡ 16
-digit_high b g =
-    let i : 48 ≤ b = omega arith in let j : 58 ≤ b = omega arith in let k : 97 ≤ b = omega arith in
-    simp (le-ltb b 48 i, le-ltb b 58 j, le-ltb b 97 k, le-ltb b 103 g)
-
 -- one more digit of a number
 pub value-more : (ds : List ℕ) (v i d w : ℕ) → i < length ds → value_from 0 ds ≡ value_from v (drop i ds) → d ≡ digit_of (get_or ds i 0) → w ≡ d
     → value_from 0 ds ≡ value_from (v * 10 + w) (drop (i + 1) ds)
@@ -99,47 +73,6 @@ pub value-over : (ds : List ℕ) (v i : ℕ) → i < length ds → value_from 0 
 value-over ds v i h e =
     let next = value-more ds v i (digit_of (get_or ds i 0)) (digit_of (get_or ds i 0)) h e refl refl in
     let l = value-least (v * 10 + digit_of (get_or ds i 0)) (drop (i + 1) ds) in omega arith
-
--- no digit is left
-pub value-all : (ds : List ℕ) (v i : ℕ) → length ds ≤ i → value_from 0 ds ≡ value_from v (drop i ds) → v ≡ value_from 0 ds
-value-all ds v i h e = sym (e ∙ ap (value_from v) (drop_of_length-le ds h))
-
--- no bytes, where digits spell none
-pub no_bytes : (digits bytes : List ℕ) →
-    ((n : ℕ) → length digits ≡ n * 2 → n ≤ length bytes → ((k : ℕ) → k < length digits → digit_of (get_or digits k 0) ≤ 15) → ⊥) →
-    (length digits ≡ 1 → ⊥)
-    → SpellsBytes digits bytes 0 false
-no_bytes digits bytes none some = record {
-  within = omega arith;
-  counted = refl;
-  each = λ k l. omega arith;
-  whole = λ e. absurd (false≢true e);
-  taken = λ n e l h. absurd (none n e l h);
-  dash = λ e f. absurd (some e);
-}
-
--- one more byte of those that digits spell
-pub byte_more : (digits bytes : List ℕ) (n high low : ℕ) → n < length bytes → ((k : ℕ) → k < n → get_or bytes k 0 ≡ byte_at digits k)
-    → high ≡ digit_of (get_or digits (2 * n) 0) → low ≡ digit_of (get_or digits (2 * n + 1) 0)
-    → (k : ℕ) → k < n + 1 → get_or (set bytes n (high * 16 + low)) k 0 ≡ byte_at digits k
-byte_more digits bytes n high low h all e f =
-    below_more (λ (k : ℕ). get_or (set bytes n (high * 16 + low)) k 0 ≡ byte_at digits k) n
-    (λ k l. get_or-set_other bytes n k (high * 16 + low) 0 (λ q. omega arith) ∙ all k l)
-    (get_or-set_same bytes n (high * 16 + low) 0 h ∙ ap₂ (λ (x y : ℕ). x * 16 + y) e f)
-
--- rows of no words
-pub rows_none : (n w : ℕ) → w ≡ 0 → 0 ≡ n * w
-rows_none n w e = sym (ap (λ (x : ℕ). n * x) e ∙ mul-zero n)
-
--- rows that do not fit
-pub rows-over : (n w m : ℕ) → (w ≡ 0 → ⊥) → m / w < n → n * w ≤ m → ⊥
-rows-over n w m e h l =
-    let p : 0 < w = omega arith in let q : n ≤ m / w = (le-div_iff_mul-le p).1 l in
-    omega arith
-
--- rows that fit
-pub rows_fit : (n w m : ℕ) → n ≤ m / w → n * w ≤ m
-rows_fit n w m h = le_trans (mul-le-mul_right w h) (div-mul-le_self m w)
 
 -- how long a part is, and what stands in it
 module _ (l : List ℕ) (a e : ℕ) (start : a ≤ e) (end : e ≤ length l) where

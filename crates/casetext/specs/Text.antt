@@ -1,5 +1,5 @@
 -- What the contracts of `casetext` cite. Assumes nothing.
-use Rattle.std.specs.Prelude.{Bool, true, cond, List, [], ◌∷◌, ◌⊎◌, ◌≡◌, ℕ, ◌+◌, ◌-◌, ◌*◌, ◌^◌, ◌≤◌, ◌<◌, min, ltb, length, take, get_or}
+use Rattle.std.specs.Prelude.{Bool, true, cond, Option, IfSome, IsTrue, is_some, List, [], ◌∷◌, ◌⊎◌, ◌≡◌, ℕ, ◌+◌, ◌-◌, ◌*◌, ◌^◌, ◌≤◌, ◌<◌, min, ltb, length, take, get_or}
 use Rattle.std.proofs.lemmas.List.Edits.{sets}
 
 -- r is where the first mark of text from `from` on is, or the text's length where there is none
@@ -30,10 +30,10 @@ abbrev pub value_from : ℕ → List ℕ → ℕ
 value_from v [] = v
 value_from v (d ∷ ds) = value_from (v * 10 + digit_of d) ds
 
--- value is the number that digits spell, where right; and decimal digits of a number that a word holds are right
-pub record Spells (digits : List ℕ) (value : ℕ) (right : Bool) : Type 0 where
-  pub meant : right ≡ true → value ≡ value_from 0 digits
-  pub taken : 0 < length digits → ((k : ℕ) → k < length digits → digit_of (get_or digits k 0) ≤ 9) → value_from 0 digits < 2 ^ 64 → right ≡ true
+-- r is the number that digits spell, if any; and it is one where they are decimal digits of a number that a word holds
+pub record Spells (digits : List ℕ) (r : Option ℕ) : Type 0 where
+  pub meant : IfSome r (λ value. value ≡ value_from 0 digits)
+  pub taken : 0 < length digits → ((k : ℕ) → k < length digits → digit_of (get_or digits k 0) ≤ 9) → value_from 0 digits < 2 ^ 64 → IsTrue (is_some r)
 
 -- byte k of the bytes that field spells, two digits to a byte
 abbrev pub byte_at : List ℕ → ℕ → ℕ

@@ -1,17 +1,15 @@
 // Lines of a text and fields of a line.
-ghost use Rattle.std.specs.Prelude.{◌≡◌, true, ℕ, ◌+◌, ◌≤◌, ◌<◌, length, get_or};
+ghost use Rattle.std.specs.Prelude.{◌≡◌, ℕ, ◌+◌, ◌≤◌, ◌<◌, length, get_or};
 ghost use Rattle.casetext.specs.Text.{FirstMark};
 
 // The place of the first `mark` of `text` from `from` on, or the text's length where there is none.
 pub fn find_mark(text: &[u8], from: usize, mark: u8) -> usize
     ensures { FirstMark text.now from mark result }
 {
-    let mut i = from;
-    while i < text.len() {
+    for i in from..text.len() {
         if text[i] == mark {
             return i;
         }
-        i += 1;
     }
     text.len()
 }
@@ -22,9 +20,10 @@ fn after(text: &[u8], end: usize) -> usize
     ensures next { end < length text.now → result ≡ end + 1 }
 {
     if end < text.len() {
-        return end + 1;
+        end + 1
+    } else {
+        text.len()
     }
-    text.len()
 }
 
 // Where the part with this index, from 0, of a text starts, or the text's length where there are fewer parts; single marks separate the parts.
@@ -32,10 +31,8 @@ pub fn part_start(text: &[u8], mark: u8, index: usize) -> usize
     ensures { result ≤ length text.now }
 {
     let mut at = 0;
-    let mut left = index;
-    while left > 0 {
+    for _ in 0..index {
         at = after(text, find_mark(text, at, mark));
-        left -= 1;
     }
     at
 }
@@ -56,22 +53,4 @@ pub fn field(line: &[u8], index: usize) -> &[u8]
     ensures unmarked { (k : ℕ) → k < length result.now → get_or result.now k 0 ≡ 32 → ⊥ }
 {
     part(line, b' ', index)
-}
-
-// Whether two texts are the same.
-pub fn is_same(one: &[u8], two: &[u8]) -> bool
-    ensures same { result ≡ true → one.now ≡ two.now }
-    ensures only { one.now ≡ two.now → result ≡ true }
-{
-    if one.len() != two.len() {
-        return false;
-    }
-    let mut i = 0;
-    while i < one.len() {
-        if one[i] != two[i] {
-            return false;
-        }
-        i += 1;
-    }
-    true
 }

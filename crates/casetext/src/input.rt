@@ -5,13 +5,6 @@ ghost use Rattle.io.specs.Counts.{IsPrefixLen};
 
 use crate::fields::field;
 
-// A number, and whether the field spells it; 0 where it spells none.
-#[derive(Clone, Copy)]
-pub struct Number {
-    pub value: usize,
-    pub right: bool,
-}
-
 // How many bytes were decoded, and whether they are all that the field spells.
 #[derive(Clone, Copy)]
 pub struct Decoded {
@@ -20,56 +13,31 @@ pub struct Decoded {
 }
 
 // Reads a decimal number that a word holds.
-pub fn read_decimal(digits: &[u8]) -> Number
-    ensures { Spells digits.now result.value result.right }
+pub fn read_decimal(digits: &[u8]) -> Option<usize>
+    ensures { Spells digits.now result }
 {
+    if digits.is_empty() {
+        return None;
+    }
     let mut value: usize = 0;
-    let mut i = 0;
-    while i < digits.len() {
-        let d = digit(digits[i]);
+    for b in digits {
+        let d = digit(*b);
         if d > 9 {
-            return Number {
-                value: 0,
-                right: false,
-            };
+            return None;
         }
-        let more = wide(d);
-        if value > (usize::MAX - more) / 10 {
-            return Number {
-                value: 0,
-                right: false,
-            };
-        }
-        value = value * 10 + more;
-        i += 1;
+        value = value.checked_mul(10)?.checked_add(usize::from(d))?;
     }
-    Number {
-        value,
-        right: digits.len() > 0,
-    }
-}
-
-// A byte as a count.
-fn wide(b: u8) -> usize
-    ensures { result ≡ b }
-{
-    b as usize
+    Some(value)
 }
 
 // The value of a lower-case hex digit, and 16 for any other byte.
 fn digit(b: u8) -> u8
     ensures { (result ≡ digit_of b) × (result ≤ 16) }
 {
-    if b < 48 {
-        16
-    } else if b < 58 {
-        b - 48
-    } else if b < 97 {
-        16
-    } else if b < 103 {
-        b - 87
-    } else {
-        16
+    match b {
+        b'0'..=b'9' => b - b'0',
+        b'a'..=b'f' => b - b'a' + 10,
+        _ => 16,
     }
 }
 
@@ -90,24 +58,16 @@ pub fn read_hex(digits: &[u8], bytes: &mut [u8]) -> Decoded
             right: false,
         };
     }
-    let mut n = 0;
-    while n < count {
+    for n in 0..count {
         let high = digit(digits[2 * n]);
         let low = digit(digits[2 * n + 1]);
-        if high > 15 {
-            return Decoded {
-                count: 0,
-                right: false,
-            };
-        }
-        if low > 15 {
+        if high > 15 || low > 15 {
             return Decoded {
                 count: 0,
                 right: false,
             };
         }
         bytes[n] = high * 16 + low;
-        n += 1;
     }
     Decoded {
         count,
@@ -119,11 +79,10 @@ pub fn read_hex(digits: &[u8], bytes: &mut [u8]) -> Decoded
 pub fn read_number(line: &[u8], index: usize, most: usize) -> usize
     ensures { result ≤ most }
 {
-    let number = read_decimal(field(line, index));
-    if number.value > most {
-        return 0;
+    match read_decimal(field(line, index)) {
+        Some(n) if n <= most => n,
+        _ => 0,
     }
-    number.value
 }
 
 // Decodes the field with this index into the start of `bytes`, and answers how many there are; 0 where it spells none, or more than have room.
@@ -131,8 +90,5 @@ pub fn read_bytes(line: &[u8], index: usize, bytes: &mut [u8]) -> usize
     ensures { IsPrefixLen result bytes.new }
 {
     let decoded = read_hex(field(line, index), bytes);
-    if decoded.right {
-        return decoded.count;
-    }
-    0
+    if decoded.right { decoded.count } else { 0 }
 }

@@ -10,8 +10,8 @@ mod output;
 mod words;
 
 pub use buffers::{STALE, item_buffer, node_buffer, text_buffer};
-pub use fields::{field, find_mark, is_same, part, part_start};
-pub use input::{Decoded, Number, read_bytes, read_decimal, read_hex, read_number};
+pub use fields::{field, find_mark, part, part_start};
+pub use input::{Decoded, read_bytes, read_decimal, read_hex, read_number};
 pub use output::{
     put, put_byte, put_decimal, put_hex, put_refusal, put_rows, put_spaced, put_words, write_line,
 };

@@ -2,13 +2,6 @@
 ghost use Rattle.std.specs.Prelude.{◌≡◌, ◌+◌, ◌≤◌, ◌<◌, min, ◌∷◌, [], length, set};
 ghost use Rattle.casetext.specs.Text.{Ends, Puts, digit_of};
 
-// Where text can be put: `at`, or the buffer's length where `at` is past it.
-fn start(out: &[u8], at: usize) -> usize
-    ensures { result ≡ min at (length out.now) }
-{
-    if at < out.len() { at } else { out.len() }
-}
-
 // Puts one byte.
 pub fn put_byte(out: &mut [u8], at: usize, byte: u8) -> usize
     ensures ends { Ends out.new at result }
@@ -26,11 +19,9 @@ pub fn put(out: &mut [u8], at: usize, bytes: &[u8]) -> usize
     ensures ends { Ends out.new at result }
     ensures wrote { Puts out.old out.new at bytes.now result }
 {
-    let mut end = start(out, at);
-    let mut i = 0;
-    while i < bytes.len() {
-        end = put_byte(out, end, bytes[i]);
-        i += 1;
+    let mut end = at.min(out.len());
+    for byte in bytes {
+        end = put_byte(out, end, *byte);
     }
     end
 }
@@ -57,42 +48,25 @@ fn put_mark(out: &mut [u8], at: usize, mark: u8, index: usize) -> usize
     ensures { Ends out.new at result }
 {
     if index == 0 {
-        return put(out, at, &[]);
+        at.min(out.len())
+    } else {
+        put_byte(out, at, mark)
     }
-    put_byte(out, at, mark)
 }
 
 // Puts words in decimal, with `mark` between them.
 pub fn put_words(out: &mut [u8], at: usize, words: &[u64], mark: u8) -> usize
     ensures { Ends out.new at result }
 {
-    let mut end = start(out, at);
-    let mut i = 0;
-    while i < words.len() {
+    let mut end = at.min(out.len());
+    for i in 0..words.len() {
         end = put_mark(out, end, mark, i);
         end = put_decimal(out, end, words[i]);
-        i += 1;
     }
     end
 }
 
-// Where the row that starts at `from` ends: `width` words on, at least one, and at most at `length`.
-fn row_end(from: usize, width: usize, length: usize) -> usize
-    ensures { (min (from + 1) length ≤ result) × (result ≤ length) }
-{
-    if from >= length {
-        return length;
-    }
-    if width == 0 {
-        return from + 1;
-    }
-    if width < length - from {
-        return from + width;
-    }
-    length
-}
-
-// Puts rows of `width` words, with `mark` between rows and `comma` between words.
+// Puts rows of `width` words, at least one, with `mark` between rows and `comma` between words.
 pub fn put_rows(
     out: &mut [u8],
     at: usize,
@@ -103,13 +77,10 @@ pub fn put_rows(
 ) -> usize
     ensures { Ends out.new at result }
 {
-    let mut end = start(out, at);
-    let mut i = 0;
-    while i < words.len() {
-        let next = row_end(i, width, words.len());
+    let mut end = at.min(out.len());
+    for (i, row) in words.chunks(width.max(1)).enumerate() {
         end = put_mark(out, end, mark, i);
-        end = put_words(out, end, &words[i..next], comma);
-        i = next;
+        end = put_words(out, end, row, comma);
     }
     end
 }
@@ -118,29 +89,24 @@ pub fn put_rows(
 fn glyph(d: u8) -> u8
     ensures { d < 16 → digit_of result ≡ d }
 {
-    if d < 10 {
-        return 48 + d;
+    match d {
+        0..=9 => b'0' + d,
+        10..=15 => b'a' + (d - 10),
+        _ => b'?',
     }
-    if d < 16 {
-        return 87 + d;
-    }
-    b'?'
 }
 
 // Puts bytes in lower-case hex, or `-` where there are none.
 pub fn put_hex(out: &mut [u8], at: usize, bytes: &[u8]) -> usize
     ensures { Ends out.new at result }
 {
-    if bytes.len() == 0 {
+    if bytes.is_empty() {
         return put_byte(out, at, b'-');
     }
-    let mut end = start(out, at);
-    let mut i = 0;
-    while i < bytes.len() {
-        let byte = bytes[i];
-        end = put_byte(out, end, glyph(byte / 16));
-        end = put_byte(out, end, glyph(byte % 16));
-        i += 1;
+    let mut end = at.min(out.len());
+    for byte in bytes {
+        end = put_byte(out, end, glyph(*byte / 16));
+        end = put_byte(out, end, glyph(*byte % 16));
     }
     end
 }

@@ -6,14 +6,7 @@ pub fn is_all(words: &[u64], value: u64) -> bool
     ensures all { result ≡ true → (k : ℕ) → k < length words.now → get_or words.now k 0 ≡ value }
     ensures only { ((k : ℕ) → k < length words.now → get_or words.now k 0 ≡ value) → result ≡ true }
 {
-    let mut i = 0;
-    while i < words.len() {
-        if words[i] != value {
-            return false;
-        }
-        i += 1;
-    }
-    true
+    words.iter().all(|word| *word == value)
 }
 
 // How many words `count` rows of `width` words have, or `lent` where they would have more.
@@ -21,11 +14,5 @@ pub fn row_words(count: usize, width: usize, lent: usize) -> usize
     ensures within { result ≤ lent }
     ensures whole { count * width ≤ lent → result ≡ count * width }
 {
-    if width == 0 {
-        return 0;
-    }
-    if count > lent / width {
-        return lent;
-    }
-    count * width
+    count.saturating_mul(width).min(lent)
 }

@@ -4,7 +4,6 @@ ghost use Rattle.room.specs.Counts.{Counts};
 ghost use Rattle.lines.specs.Answer.{Gives};
 ghost use Rattle.checks.specs.Checked.{ok_line, check_answer};
 
-use file::Read;
 use lines::{Made, conclude, put_end, refuse};
 
 // Puts the line of an accepted file: its version and its length.
@@ -23,8 +22,8 @@ pub fn make_check(file: &[u8], tail: &[u8], text: &mut [u8]) -> Made
     let mut nodes = program::node_table();
     let mut items = program::item_table();
     match file::read_file(file, &mut nodes, &mut items) {
-        Read::Refused(n, p) => refuse(text, tail, n, p.0),
-        Read::Is(s) => {
+        Err(e) => refuse(text, tail, e),
+        Ok(s) => {
             let end = put_ok(text, tail, s.version, file.len());
             conclude(text, tail, end, 0)
         }

@@ -5,7 +5,6 @@ ghost use Rattle.lines.specs.Answer.{Gives};
 ghost use Rattle.checks.specs.Checked.{verdict_line, verdict_status, verdict_answer};
 
 use lines::{Made, conclude, put_end, refuse};
-use mobile::Judged;
 
 // Puts the line of a verdict.
 fn put_verdict(out: &mut [u8], tail: &[u8], verdict: u64) -> usize
@@ -17,13 +16,11 @@ fn put_verdict(out: &mut [u8], tail: &[u8], verdict: u64) -> usize
 }
 
 // The status of a verdict: 3 where a check fails.
+#[tactic(auto, unfolding(crate::specs::Checked::verdict_status))]
 fn verdict_status(verdict: u64) -> u64
     ensures { result ≡ verdict_status verdict }
 {
-    if verdict == 0 {
-        return 0;
-    }
-    3
+    if verdict == 0 { 0 } else { 3 }
 }
 
 pub fn make_verdict(file: &[u8], tail: &[u8], text: &mut [u8]) -> Made
@@ -32,8 +29,8 @@ pub fn make_verdict(file: &[u8], tail: &[u8], text: &mut [u8]) -> Made
     let mut nodes = program::node_table();
     let mut items = program::item_table();
     match mobile::judge(file, &mut nodes, &mut items) {
-        Judged::Refused(n, p) => refuse(text, tail, n, p),
-        Judged::Verdict(v) => {
+        Err(e) => refuse(text, tail, e),
+        Ok(v) => {
             let end = put_verdict(text, tail, v);
             conclude(text, tail, end, verdict_status(v))
         }

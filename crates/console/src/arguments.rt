@@ -1,6 +1,8 @@
 // The program's arguments.
+ghost use Rattle.std.specs.Prelude.{IfSome};
+ghost use Rattle.io.specs.Counts.{IsPrefixLen};
+
 use crate::messages;
-use spelling::Number;
 use std::io::Eprint;
 use std::rt::Env;
 
@@ -13,25 +15,33 @@ pub fn is_word(rt: &impl Env, i: usize, word: &[u8]) -> bool {
     }
 }
 
+// Puts an argument at the start of the buffer; says so where it is missing or too long, and `what` it is. Answers its length.
+pub fn arg_at(rt: &(impl Env + Eprint), i: usize, what: &[u8], buf: &mut [u8]) -> Option<usize>
+    ensures { IfSome result (λ n. IsPrefixLen n buf.new) }
+{
+    match program::arg(rt, i, buf) {
+        Ok(n) => Some(n),
+        Err(error) => {
+            messages::failed(rt, what, error);
+            None
+        }
+    }
+}
+
 // The number that a word is; says so where it is none.
-fn read_number(rt: &impl Eprint, word: &[u8]) -> Number {
+fn read_number(rt: &impl Eprint, word: &[u8]) -> Option<u64> {
     let number = spelling::decimal(word);
-    if let Number::None = number {
+    if number.is_none() {
         messages::trouble(rt, word, b"no decimal number");
     }
     number
 }
 
 // The number that argument i is; says so where it is none.
-pub fn number_at(rt: &(impl Env + Eprint), i: usize) -> Number {
+pub fn number_at(rt: &(impl Env + Eprint), i: usize) -> Option<u64> {
     let mut buf = io::buffer();
-    match program::arg(rt, i, &mut buf) {
-        Ok(n) => read_number(rt, &buf[..n]),
-        Err(error) => {
-            messages::failed(rt, b"a number", error);
-            Number::None
-        }
-    }
+    let n = arg_at(rt, i, b"a number", &mut buf)?;
+    read_number(rt, &buf[..n])
 }
 
 // The descriptor for the status that argument i names; -1 for none.

@@ -5,7 +5,7 @@ mod arguments;
 mod host;
 mod messages;
 
-pub use arguments::{is_word, number_at, status_at};
+pub use arguments::{arg_at, is_word, number_at, status_at};
 pub use host::Host;
 pub use messages::{
     Unwritten, failed, line_buffer, say_name, say_refusal, say_safe, trouble, usage, write,

@@ -5,7 +5,6 @@ ghost use Rattle.std.specs.Prelude.{◌≡◌, length};
 
 use answers::Asked;
 use console::Host;
-use spelling::Number;
 use std::io::Eprint;
 
 // Says what changed.
@@ -60,12 +59,9 @@ fn correct_typed(rt: &impl Host, name: &[u8], file: &[u8], row: usize, title: &[
 // The title is an argument.
 fn correct_text(rt: &impl Host, name: &[u8], file: &[u8], row: usize) -> u64 {
     let mut title = io::large_buffer();
-    match program::arg(rt, 6, &mut title) {
-        Ok(n) => correct_typed(rt, name, file, row, &title[..n]),
-        Err(error) => {
-            console::failed(rt, b"the title", error);
-            1
-        }
+    match console::arg_at(rt, 6, b"the title", &mut title) {
+        Some(n) => correct_typed(rt, name, file, row, &title[..n]),
+        None => 1,
     }
 }
 
@@ -110,12 +106,9 @@ fn correct_spelt(rt: &impl Host, file: &[u8], row: usize, digits: &[u8]) -> u64 
 // The bytes are an argument, in hex.
 fn correct_bytes(rt: &impl Host, file: &[u8], row: usize) -> u64 {
     let mut digits = hex_buffer();
-    match program::arg(rt, 6, &mut digits) {
-        Ok(n) => correct_spelt(rt, file, row, &digits[..n]),
-        Err(error) => {
-            console::failed(rt, b"the bytes", error);
-            1
-        }
+    match console::arg_at(rt, 6, b"the bytes", &mut digits) {
+        Some(n) => correct_spelt(rt, file, row, &digits[..n]),
+        None => 1,
     }
 }
 
@@ -143,10 +136,10 @@ fn correct_named(rt: &impl Host, name: &[u8], row: usize) -> u64 {
 
 // The file's name is an argument, and its row the one after.
 fn correct_row(rt: &impl Host, name: &[u8]) -> u64 {
-    match console::number_at(rt, 4) {
-        Number::None => 1,
-        Number::Is(row) => correct_named(rt, name, row as usize),
-    }
+    let Some(row) = console::number_at(rt, 4) else {
+        return 1;
+    };
+    correct_named(rt, name, row as usize)
 }
 
 // FILE ROW KIND WORD OUT NEW
@@ -155,11 +148,8 @@ pub fn correct(rt: &impl Host, count: usize) -> u64 {
         return console::usage(rt);
     }
     let mut name = io::buffer();
-    match program::arg(rt, 3, &mut name) {
-        Ok(n) => correct_row(rt, &name[..n]),
-        Err(error) => {
-            console::failed(rt, b"the file's name", error);
-            1
-        }
+    match console::arg_at(rt, 3, b"the file's name", &mut name) {
+        Some(n) => correct_row(rt, &name[..n]),
+        None => 1,
     }
 }

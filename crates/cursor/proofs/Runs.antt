@@ -3,7 +3,7 @@
 use mathlib.Core.Path.{◌≡◌, refl, subst}
 use mathlib.Core.List.{List}
 use Prim.Native.Nat.{ℕ, zero, suc}
-use Rattle.machine.specs.Machine.{Out, ok, refused, run, exec, times}
+use Rattle.machine.specs.Machine.{Out, ok, refused, run, times}
 use Rattle.cursor.specs.Rows.{Part, P}
 use Rattle.machine.proofs.Laws.{running, never}
 use Rattle.cursor.proofs.Quiet.{Quiet, IgnoresPlain, still, exec-puts}

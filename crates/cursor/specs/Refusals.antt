@@ -1,4 +1,4 @@
--- The refusal list of 01 and of 02: each number with its name. The code has the same names in capitals. The reader's list is here; a question's own stands with the question.
+-- The refusal list of 01 and of 02: each number with its name. In the code they are the cases of `Reason`, in `refusals`. The reader's list is here; a question's own stands with the question.
 -- Assumes nothing.
 use Rattle.std.specs.Prelude.{Bool, false, not, ◌&&◌, ◌||◌, List, [], ◌∷◌, ℕ, ◌≤◌, T, eqb}
 use Rattle.room.specs.Room.{Result, good, bad, no_room}

@@ -6,85 +6,9 @@ ghost use Rattle.machine.specs.Machine.{run};
 ghost use Rattle.cursor.specs.Rows.{Frame};
 ghost use Rattle.cursor.specs.Leaves.{number, block, manufacturer, guid};
 ghost use Rattle.cursor.specs.Told.{ByteTold, number_told, pass_told};
+ghost use Rattle.refusals.specs.Reasons.{number_of};
 
-// The refusal list of document 01, in its order.
-pub const NOT_XMF: u64 = 1;
-
-pub const BAD_VERSION: u64 = 2;
-
-pub const CUT_SHORT: u64 = 3;
-
-pub const BAD_NUMBER: u64 = 4;
-
-pub const WRONG_LENGTH: u64 = 5;
-
-pub const BAD_TYPE: u64 = 6;
-
-pub const BAD_TREE: u64 = 7;
-
-pub const BAD_NODE: u64 = 8;
-
-pub const TOO_DEEP: u64 = 9;
-
-pub const NO_ROW_LEFT: u64 = 10;
-
-pub const BAD_CONTENTS: u64 = 11;
-
-pub const BAD_UNPACKER: u64 = 12;
-
-pub const BAD_REFERENCE: u64 = 13;
-
-pub const BAD_FOLDER: u64 = 14;
-
-pub const BYTES_LEFT: u64 = 15;
-
-pub const BAD_TARGET: u64 = 16;
-
-pub const TOO_LARGE: u64 = 17;
-
-pub const NO_SUCH_ROW: u64 = 18;
-
-pub const ENDS_AT_FOLDER: u64 = 19;
-
-pub const ENDS_AT_URI: u64 = 20;
-
-pub const TOO_MANY_HOPS: u64 = 21;
-
-pub const NO_ROOM: u64 = 22;
-
-pub const NO_SUCH_ITEM: u64 = 23;
-
-pub const BAD_DETACHED: u64 = 24;
-
-pub const BAD_DESCRIPTION: u64 = 25;
-
-pub const BAD_TEXT: u64 = 26;
-
-pub const NO_SUCH_CARD: u64 = 27;
-
-pub const NO_FREE_CARD: u64 = 28;
-
-pub const ALREADY_THERE: u64 = 29;
-
-pub const SHEET_TOO_LONG: u64 = 30;
-
-pub const BAD_SHEET: u64 = 31;
-
-pub const TOO_MANY_FILES: u64 = 32;
-
-pub const NOT_A_TAG: u64 = 33;
-
-pub const BAD_TAG: u64 = 34;
-
-pub const UNSYNCHRONISED: u64 = 35;
-
-pub const REFERS_ELSEWHERE: u64 = 36;
-
-pub const NOT_A_TITLE: u64 = 37;
-
-pub const RESULT_TOO_LARGE: u64 = 38;
-
-pub const DAMAGED_SHELF: u64 = 39;
+use refusals::{Reason, Refusal};
 
 // The words of a row, and how many rows and levels there may be.
 pub const NODE_WIDTH: usize = 13;
@@ -111,25 +35,11 @@ pub struct Cursor {
     pub at: FilePlace,
 }
 
-// A number and the cursor after it, or a refusal with its place.
-#[derive(Clone, Copy)]
-pub enum Numbered {
-    Is(u64, Cursor),
-    Refused(u64, FilePlace),
-}
-
 // A byte and the cursor after it.
 #[derive(Clone, Copy)]
 pub struct Byte {
     pub value: u64,
     pub next: Cursor,
-}
-
-// The cursor after a field whose value is not kept, or a refusal with its place.
-#[derive(Clone, Copy)]
-pub enum Passed {
-    To(Cursor),
-    Refused(u64, FilePlace),
 }
 
 // A row of the node table (01, Rows; 02, E3), in the order of its words. `contained` is the number of contained items, `unpackers` the unpackers' place,
@@ -197,9 +107,9 @@ impl Cursor {
     }
 
     // The number here, in a part that ends at `end`; `past` is the refusal of one that runs past it.
-    pub fn number(self, file: &[u8], end: FilePlace, past: u64) -> Numbered
+    pub fn number(self, file: &[u8], end: FilePlace, past: Reason) -> Result<(u64, Cursor), Refusal>
         requires { end.0 ≤ length file.now }
-        ensures { (κ : Frame) → number_told result ≡ run (number κ past end.0) file.now self.at.0 }
+        ensures { (κ : Frame) → number_told result ≡ run (number κ (number_of past) end.0) file.now self.at.0 }
     {
         let start = self.at;
         let stop = end.0;
@@ -209,7 +119,7 @@ impl Cursor {
             let one = self.byte(file);
             if one.value < 128 {
                 let next = one.next;
-                return Numbered::Is(one.value, next);
+                return Ok((one.value, next));
             }
         }
         let mut at = first;
@@ -217,17 +127,17 @@ impl Cursor {
         let mut left: usize = 4;
         loop {
             if left == 0 {
-                break Numbered::Refused(BAD_NUMBER, start);
+                break Err(Refusal(Reason::BadNumber, first));
             }
             if stop <= at {
-                break Numbered::Refused(past, start);
+                break Err(Refusal(past, first));
             }
             let byte = wide(file[at]);
             at = at + 1;
             left = left - 1; // a leading 80h counts too
             value = value * 128 + byte % 128;
             if byte < 128 {
-                break Numbered::Is(value, Cursor { at: FilePlace(at) });
+                break Ok((value, Cursor { at: FilePlace(at) }));
             }
         }
     }
@@ -244,68 +154,65 @@ impl Cursor {
     }
 
     // The length here, with the block that it counts; the cursor is then at the block.
-    pub fn block(self, file: &[u8], end: FilePlace, past: u64) -> Numbered
+    pub fn block(self, file: &[u8], end: FilePlace, past: Reason) -> Result<(u64, Cursor), Refusal>
         requires { end.0 ≤ length file.now }
-        ensures { (κ : Frame) → number_told result ≡ run (block κ past end.0) file.now self.at.0 }
+        ensures { (κ : Frame) → number_told result ≡ run (block κ (number_of past) end.0) file.now self.at.0 }
     {
         let place = self.at;
-        match self.number(file, end, past) {
-            Numbered::Refused(n, p) => Numbered::Refused(n, p),
-            Numbered::Is(size, c) => {
-                let first = c.at;
-                if end.0 - first.0 < size as usize {
-                    return Numbered::Refused(past, place);
-                }
-                Numbered::Is(size, c)
-            }
+        let (size, c) = self.number(file, end, past)?;
+        let first = c.at;
+        if end.0 - first.0 < size as usize {
+            return Err(Refusal(past, place.0));
         }
+        Ok((size, c))
     }
 
     // The manufacturer here: one byte, or three when the first is 0.
-    pub fn manufacturer(self, file: &[u8], end: FilePlace) -> Passed
+    pub fn manufacturer(self, file: &[u8], end: FilePlace) -> Result<Cursor, Refusal>
         requires { end.0 ≤ length file.now }
         ensures { (κ : Frame) → pass_told result ≡ run (manufacturer κ end.0) file.now self.at.0 }
     {
         let place = self.at;
         let at = place.0;
         if end.0 <= at {
-            return Passed::Refused(CUT_SHORT, place);
+            return Err(Refusal(Reason::CutShort, at));
         }
         let b = wide(file[at]);
         if b != 0 {
-            return Passed::To(Cursor {
+            return Ok(Cursor {
                 at: FilePlace(at + 1),
             });
         }
         if end.0 - at < 3 {
-            return Passed::Refused(CUT_SHORT, place);
+            return Err(Refusal(Reason::CutShort, at));
         }
-        Passed::To(Cursor {
+        Ok(Cursor {
             at: FilePlace(at + 3),
         })
     }
 
     // The GUID here: 1 to 19 bytes, ended by the first below 80h.
-    pub fn guid(self, file: &[u8], end: FilePlace) -> Passed
+    pub fn guid(self, file: &[u8], end: FilePlace) -> Result<Cursor, Refusal>
         requires { end.0 ≤ length file.now }
         ensures { (κ : Frame) → pass_told result ≡ run (guid κ end.0) file.now self.at.0 }
     {
         let start = self.at;
         let stop = end.0;
-        let mut at = start.0;
+        let first = start.0;
+        let mut at = first;
         let mut left: usize = 19;
         loop {
             if left == 0 {
-                break Passed::Refused(BAD_NUMBER, start);
+                break Err(Refusal(Reason::BadNumber, first));
             }
             if stop <= at {
-                break Passed::Refused(CUT_SHORT, start);
+                break Err(Refusal(Reason::CutShort, first));
             }
             let byte = wide(file[at]);
             at = at + 1;
             left = left - 1;
             if byte < 128 {
-                break Passed::To(Cursor { at: FilePlace(at) });
+                break Ok(Cursor { at: FilePlace(at) });
             }
         }
     }

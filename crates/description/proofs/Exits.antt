@@ -2,20 +2,24 @@
 -- Assumes nothing.
 use mathlib.Core.Path.{◌≡◌, sym, ap, ◌∙◌}
 use mathlib.Core.Bool.{Bool, true, false, not}
+use mathlib.Core.Logic.{◌⊎◌, inl, inr}
 use mathlib.Core.List.{List}
 use Prim.Native.Nat.{ℕ, ◌+◌, ◌*◌, ◌≤◌, ◌<◌}
 use lib.ListN.{length, replicate}
+use Rattle.std.proofs.lemmas.Bool.{false≢true}
 use borrow.Author.Tests.{lt-ltb, le-ltb, not-true, not-false}
 use Rattle.machine.specs.Machine.{run}
-use Rattle.cursor.specs.declared.FilePlace.{FilePlace}
+use Rattle.std.proofs.Common.{Ok, Err}
+use Rattle.std.proofs.Common as std
+use Rattle.std.specs.Result.{is_err}
+use Rattle.refusals.specs.Reasons.{number_of}
+use Rattle.refusals.specs.declared.Refusal.{Refusal}
 use Rattle.cursor.specs.declared.Item.{Item}
 use Rattle.rows.specs.Rows.{item_width, item_from, items_in, ItemRows}
 use Rattle.metadata.specs.Tables.{limits}
 use Rattle.file.specs.Reading.{read_file, read_of, node_table, item_table}
-use Rattle.file.specs.Asking.{Result, good, bad}
+use Rattle.file.specs.Asking.{Result, bad}
 use Rattle.file.specs.declared.Summary.{Summary}
-use Rattle.file.specs.declared.Read.{Read}
-use Rattle.file.specs.declared.Read.TheVariants as read
 use Rattle.rows.proofs.Rows.{item-at, items-in_length}
 use Rattle.file.proofs.Rows.{Standing, standing}
 use Rattle.file.proofs.Exits.{Says, says-unread, says-refused, says-answer}
@@ -24,8 +28,6 @@ use Rattle.description.specs.Row.{is_field, is_binary, is_description}
 use Rattle.description.specs.Description.{description}
 use Rattle.description.specs.Count.{data_read, count_of, count_in, count_row, count_for}
 use Rattle.description.specs.Told.{told}
-use Rattle.description.specs.declared.Counted.{Counted}
-use Rattle.description.specs.declared.Counted.TheVariants as counted
 
 -- ---- one row
 
@@ -63,32 +65,32 @@ module _ (f ws : List ℕ) (count row channel resource : ℕ) where
 abbrev pub Ends : (f : List ℕ) (nsize isize row channel resource : ℕ) → Result ℕ → (t u : List ℕ) → Type 0
 Ends f nsize isize row channel resource a t u = Says nsize isize (read_file (limits nsize isize) f) (count_for row channel resource f) a t u
 
-module _ (f : List ℕ) (nsize isize row channel resource : ℕ) {r : Read} {t u : List ℕ} (e : r ≡ read_of (read_file (limits nsize isize) f))
+module _ (f : List ℕ) (nsize isize row channel resource : ℕ) {r : std.Result Summary Refusal} {t u : List ℕ} (e : told r ≡ read_of (read_file (limits nsize isize) f))
     (a : t ≡ node_table nsize (read_file (limits nsize isize) f)) (b : u ≡ item_table isize (read_file (limits nsize isize) f)) where
-  pub ends_unread : {n : ℕ} {p : FilePlace} → r ≡ read.Refused n p → Ends f nsize isize row channel resource (bad n p.0) t u
+  pub ends_unread : {x : Refusal} → r ≡ Err x → Ends f nsize isize row channel resource (bad (number_of x.0) x.1) t u
   ends_unread k = says-unread nsize isize _ (count_for row channel resource f) e k a b
 
-  module _ {s : Summary} (k : r ≡ read.Is s) where
+  module _ {s : Summary} (k : r ≡ Ok s) where
     stands : Standing f (read_file (limits nsize isize) f) s t u
     stands = standing f (limits nsize isize) nsize isize e a b k
 
     pub rows_inside : ItemRows (length f) s.items u
     rows_inside = item-rows stands
 
-    module _ (x : Counted) (y : told x ≡ count_row f row channel resource (items_in s.items u)) where
-      answered : told x ≡ count_for row channel resource f stands.h stands.ns stands.is
-      unfolding count_for
-      answered = y ∙ ap (count_row f row channel resource) stands.items-are
+    -- the tables are kept, or cleared where the count is refused
+    pub ends_counted : (x : std.Result ℕ Refusal) → told x ≡ count_row f row channel resource (items_in s.items u) → {t' u' : List ℕ} →
+        ((is_err x ≡ true) × (t' ≡ replicate nsize 0) × (u' ≡ replicate isize 0)) ⊎ ((is_err x ≡ false) × (t' ≡ t) × (u' ≡ u)) →
+        Ends f nsize isize row channel resource (told x) t' u'
+    unfolding count_for
+    ends_counted x y = by x (counted y)
+      where
+        counted : {q : Result ℕ} → q ≡ count_row f row channel resource (items_in s.items u) → count_for row channel resource f stands.h stands.ns stands.is ≡ q
+        counted y = sym (y ∙ ap (count_row f row channel resource) stands.items-are)
 
-      pub ends_refused : {n p : ℕ} → x ≡ counted.Refused n p → {t' u' : List ℕ} → t' ≡ replicate nsize 0 → u' ≡ replicate isize 0 → Ends f nsize
-          isize row channel resource (bad n p) t' u'
-      ends_refused {n} {p} z c d =
-          let w = stands in
-          let q : count_for row channel resource f w.h w.ns w.is ≡ bad n p = sym answered ∙ ap told z in
-          says-refused nsize isize _ (count_for row channel resource f) w.reads q c d
-
-      pub ends_count : {n : ℕ} → x ≡ counted.Count n → Ends f nsize isize row channel resource (good n) t u
-      ends_count {n} z =
-          let w = stands in
-          let q : count_for row channel resource f w.h w.ns w.is ≡ good n = sym answered ∙ ap told z in
-          says-answer nsize isize _ (count_for row channel resource f) w.reads q a b
+        by : (x : std.Result ℕ Refusal) → count_for row channel resource f stands.h stands.ns stands.is ≡ told x → {t' u' : List ℕ} →
+            ((is_err x ≡ true) × (t' ≡ replicate nsize 0) × (u' ≡ replicate isize 0)) ⊎ ((is_err x ≡ false) × (t' ≡ t) × (u' ≡ u)) →
+            Ends f nsize isize row channel resource (told x) t' u'
+        by (Err z) q (inl (h, c, d)) = says-refused nsize isize _ (count_for row channel resource f) stands.reads q c d
+        by (Err z) q (inr (h, c, d)) = absurd (false≢true (sym h))
+        by (Ok n) q (inl (h, c, d)) = absurd (false≢true h)
+        by (Ok n) q (inr (h, c, d)) = says-answer nsize isize _ (count_for row channel resource f) stands.reads q (c ∙ a) (d ∙ b)

@@ -5,7 +5,7 @@ use mathlib.Core.Bool.{Bool, true, false, ◌&&◌}
 use Prim.Native.Nat.{ℕ}
 use native.Mathlib.Omega.{arith}
 use lib.Dec.{eqb}
-use borrow.Author.Tests.{eq-eqb, ne_eqb, eqb-true}
+use borrow.Author.Tests.{eqb-true}
 use Rattle.cursor.specs.declared.Item.{Item}
 use Rattle.description.specs.Row.{is_field, is_binary, is_description}
 
@@ -23,23 +23,3 @@ module _ (r : Item) where
   pub description-is : is_description r ≡ true → (r.kind ≡ 0) × (r.field ≡ 13)
   unfolding is_description
   description-is e = field_is 13 (both (is_field 13 r) (is_binary r) e).0
-
-  pub field-other : (n : ℕ) → ((r.kind ≡ 0) → ⊥) → false ≡ is_field n r
-  unfolding is_field
-  field-other n e = simp (ne_eqb _ _ e)
-
-  pub field-by : (n : ℕ) {b : Bool} → r.kind ≡ 0 → b ≡ eqb r.field n → b ≡ is_field n r
-  unfolding is_field
-  field-by n e t = simp (eq-eqb _ _ e) t
-
-  pub binary_version : ((r.version ≡ 0) → ⊥) → false ≡ is_binary r
-  unfolding is_binary
-  binary_version e = simp (ne_eqb _ _ e)
-
-  pub binary_six : r.version ≡ 0 → r.format ≡ 6 → true ≡ is_binary r
-  unfolding is_binary
-  binary_six e t = simp (eq-eqb _ _ e, eq-eqb _ _ t)
-
-  pub binary_by : {b : Bool} → r.version ≡ 0 → ((r.format ≡ 6) → ⊥) → b ≡ eqb r.format 7 → b ≡ is_binary r
-  unfolding is_binary
-  binary_by e n t = simp (eq-eqb _ _ e, ne_eqb _ _ n) t

@@ -1,27 +1,29 @@
 -- The ways through a content description: what each exit of the code comes to.
 -- Assumes nothing.
 use mathlib.Core.Path.{◌≡◌, refl, sym, ap, ◌∙◌}
-use mathlib.Core.Bool.{Bool, true, false, cond, not, ◌&&◌, ◌||◌}
+use mathlib.Core.Bool.{Bool, true, false, cond, ◌&&◌}
 use mathlib.Core.Logic.{◌⊎◌, inl, inr}
 use mathlib.Core.List.{List, [], ◌∷◌}
 use Prim.Native.Nat.{ℕ, zero, suc, ◌+◌, ◌*◌, ◌-◌, ◌^◌, ◌≤◌, ◌<◌}
 use native.Mathlib.Omega.{arith}
 use native.Mathlib.Decide.{dec_lt}
 use native.Mathlib.Nat.{mul-le-mul}
-use lib.Dec.{ltb, eqb}
+use lib.Dec.{ltb}
 use lib.ListN.{get_or}
 use borrow.Author.Tests.{lt-ltb, le-ltb, le-leb, lt-leb, eq-eqb, ne_eqb}
+use Rattle.std.proofs.Common.{Option, Some, None, Ok, Err}
+use Rattle.std.proofs.Common as std
+use Rattle.std.specs.Result.{is_ok}
+use Rattle.refusals.specs.declared.Refusal.{Refusal}
 use Rattle.machine.specs.Machine.{Out, ok, refused, run, times}
-use Rattle.cursor.specs.Rows.{P, meta_frame}
+use Rattle.cursor.specs.Rows.{meta_frame}
 use Rattle.cursor.specs.Leaves.{next, number, manufacturer}
 use Rattle.cursor.specs.declared.Item.{Item}
 use Rattle.machine.proofs.Laws.{running, and_then, run-times, run-timed}
-use Rattle.machine.proofs.Wp.{Wp, at_end, wp_after, wp_weaken, wp_ret, wp_check, wp_place, wp_times}
-use Rattle.cursor.proofs.Leaves.{Any, any_free, next-on, number-on, manufacturer-on}
 use Rattle.file.specs.Asking.{Result, good, bad}
 use Rattle.description.specs.Description.{value, a_byte, guid, identifier, resource, numbers, Description, lists, table, description}
 use Rattle.description.specs.Count.{data_read, is_read, is_readable, count_at, count_of}
-use Rattle.description.specs.Told.{picked}
+use Rattle.description.specs.Told.{told, picked, found}
 
 -- ---- a resource
 
@@ -98,34 +100,6 @@ module _ (end : ℕ) (f : List ℕ) (at : ℕ) where
     unfolding resource
     resource-all l h = h ∙ simp (running, e₁, le-leb _ _ l)
 
--- it moves on, and stays in the part
-value_on : (end at : ℕ) → Wp Any (value end) (λ _ q. (at ≤ q) × (q ≤ end)) at
-unfolding value
-value_on end at = wp_after (number-on _ _ end at) λ v q x. wp_ret (omega arith)
-
-guid-on : (end at : ℕ) → at ≤ end → Wp Any (guid end) (λ _ q. (at ≤ q) × (q ≤ end)) at
-unfolding guid a_byte
-guid-on end at l =
-    wp_place _ at
-    (wp_weaken (wp_times (λ _. Unit {0}) 16 tt (λ t p h i. wp_after (next-on _ _ end at p) λ b q x. wp_ret (tt, omega arith, omega arith)) tt l) (λ _ q x. (x.1, x.2)))
-
-by_test : (b : Bool) {m n : P (Unit {0})} {R : Unit {0} → ℕ → Type 0} {at : ℕ} → Wp Any m R at → Wp Any n R at → Wp Any (cond b m n) R at
-by_test true h k = h
-by_test false h k = k
-
-identifier-on : (kind end at : ℕ) → at ≤ end → Wp Any (identifier kind end) (λ _ q. (at ≤ q) × (q ≤ end)) at
-unfolding identifier
-identifier-on kind end at l =
-    by_test (eqb kind 3 || eqb kind 5) (guid-on end at l)
-    (by_test (eqb kind 1) (wp_after (manufacturer-on _ end at) λ m q x. wp_weaken (value_on end q) (λ _ r y. omega arith)) (value_on end at))
-
-resource-on : (end at : ℕ) → Wp Any (resource end) (λ _ q. (at < q) × (q ≤ end)) at
-unfolding resource
-resource-on end at =
-    wp_place _ at
-    (wp_after (number-on _ _ end at) λ kind q x. wp_check _ _ λ t.
-    wp_weaken (identifier-on kind end q (omega arith)) (λ _ r y. omega arith))
-
 -- ---- resources one after the other: what is left of them is the whole
 
 pub record Going (f : List ℕ) (end count from left at : ℕ) : Type 0 where
@@ -144,9 +118,6 @@ module _ {f : List ℕ} {end count from left at : ℕ} (g : Going f end count fr
 
     pub resources-on : {q : ℕ} → run (resource end) f at ≡ ok tt q → Going f end count from (left - 1) q
     resources-on e = record { same = turn ∙ rw e refl }
-
-pub resource-further : (f : List ℕ) (end at : ℕ) {q : ℕ} → run (resource end) f at ≡ ok tt q → (at < q) × (q ≤ end)
-resource-further f end at e = at_end any_free f (resource-on end at) e
 
 -- ---- numbers one after the other, of which one is kept
 
@@ -265,90 +236,100 @@ pub product : (a b : ℕ) → a < 2 ^ 28 → b < 2 ^ 28 → a * b < 2 ^ 56
 product a b h k = let w : a * b ≤ 268435455 * 268435455 = mul-le-mul {n₁ = a} {m₁ = b} {n₂ = 268435455} {m₂ = 268435455} (omega arith) (omega arith) in omega arith
 
 module _ (channels resources end : ℕ) (f : List ℕ) (at channel resource index : ℕ) where
-  abbrev Given : Result ℕ → Type 0
-  Given a = a ≡ count_of channel resource (run (table channels resources end) f at)
+  abbrev Given : Result (Option ℕ) → Type 0
+  Given a = a ≡ found channel resource (run (table channels resources end) f at)
 
-  pub table-cut : {n p : ℕ} → picked index (run (numbers (channels * resources) end) f at) ≡ refused n p → Given (bad 25 p)
-  unfolding table count_of
+  pub table-cut : {n p : ℕ} → picked index (run (numbers (channels * resources) end) f at) ≡ refused n p → Given (bad n p)
+  unfolding table
   table-cut {n} {p} e = let e₁ : run (numbers (channels * resources) end) f at ≡ refused n p = picked-no index _ e in simp (running, e₁)
 
   module _ {v q : ℕ} (e : picked index (run (numbers (channels * resources) end) f at) ≡ ok v q) where
-    found : (vs : List ℕ) × (run (numbers (channels * resources) end) f at ≡ ok vs q) × (get_or vs index 0 ≡ v)
-    found = picked-ok index (run (numbers (channels * resources) end) f at) e
+    all_read : (vs : List ℕ) × (run (numbers (channels * resources) end) f at ≡ ok vs q) × (get_or vs index 0 ≡ v)
+    all_read = picked-ok index (run (numbers (channels * resources) end) f at) e
 
-    counts-are : run (numbers (channels * resources) end) f at ≡ ok found.0 q
-    counts-are = found.1
+    counts-are : run (numbers (channels * resources) end) f at ≡ ok all_read.0 q
+    counts-are = all_read.1
 
     pub table-left : q < end → Given (bad 25 q)
-    unfolding table count_of
+    unfolding table
     table-left l = simp (running, counts-are, lt-leb _ _ l)
 
     module _ (l : end ≤ q) where
-      pub table-channel : channels ≤ channel → Given (bad 23 0)
-      unfolding table count_of count_at
+      pub table-channel : channels ≤ channel → Given (good None)
+      unfolding table
       table-channel h = simp (running, counts-are, le-leb _ _ l, le-ltb _ _ h)
 
       module _ (c : channel < channels) where
-        pub table-resource : resources ≤ resource → Given (bad 23 0)
-        unfolding table count_of count_at
+        pub table-resource : resources ≤ resource → Given (good None)
+        unfolding table
         table-resource h = simp (running, counts-are, le-leb _ _ l, lt-ltb _ _ c, le-ltb _ _ h)
 
-        pub table-count : resource < resources → (channel < channels → resource < resources → index ≡ channel * resources + resource) → Given (good v)
-        unfolding table count_of count_at
-        table-count h is = let i = is c h in simp (running, counts-are, le-leb _ _ l, lt-ltb _ _ c, lt-ltb _ _ h) (rw (← i, found.2) refl)
+        pub table-count : resource < resources → (channel < channels → resource < resources → index ≡ channel * resources + resource) → Given (good (Some v))
+        unfolding table
+        table-count h is = let i = is c h in simp (running, counts-are, le-leb _ _ l, lt-ltb _ _ c, lt-ltb _ _ h) (rw (← i, all_read.2) refl)
 
 -- ---- the whole item
 
 module _ (end : ℕ) (f : List ℕ) (at channel resource : ℕ) where
-  abbrev Whole : Result ℕ → Type 0
-  Whole a = a ≡ count_of channel resource (run (description end) f at)
+  abbrev Whole : Result (Option ℕ) → Type 0
+  Whole a = a ≡ found channel resource (run (description end) f at)
 
-  pub whole-message : {n p : ℕ} → run (number meta_frame 3 end) f at ≡ refused n p → Whole (bad 25 p)
-  unfolding description count_of
+  pub whole-message : {n p : ℕ} → run (number meta_frame 3 end) f at ≡ refused n p → Whole (bad n p)
+  unfolding description
   whole-message e = simp (running, e)
 
   module _ {message q : ℕ} (e₁ : run (number meta_frame 3 end) f at ≡ ok message q) where
-    pub whole-channels : {n p : ℕ} → run (number meta_frame 3 end) f q ≡ refused n p → Whole (bad 25 p)
-    unfolding description count_of
+    pub whole-channels : {n p : ℕ} → run (number meta_frame 3 end) f q ≡ refused n p → Whole (bad n p)
+    unfolding description
     whole-channels e = simp (running, e₁, e)
 
     module _ {channels r : ℕ} (e₂ : run (number meta_frame 3 end) f q ≡ ok channels r) where
-      pub whole-resources : {n p : ℕ} → run (number meta_frame 3 end) f r ≡ refused n p → Whole (bad 25 p)
-      unfolding description count_of
+      pub whole-resources : {n p : ℕ} → run (number meta_frame 3 end) f r ≡ refused n p → Whole (bad n p)
+      unfolding description
       whole-resources e = simp (running, e₁, e₂, e)
 
       module _ {resources s : ℕ} (e₃ : run (number meta_frame 3 end) f r ≡ ok resources s) where
-        pub whole-lists : {n p : ℕ} → run (lists resources end) f s ≡ refused n p → Whole (bad 25 p)
-        unfolding description count_of
+        pub whole-lists : {n p : ℕ} → run (lists resources end) f s ≡ refused n p → Whole (bad n p)
+        unfolding description
         whole-lists e = simp (running, e₁, e₂, e₃, e)
 
-        pub whole-table : {t : ℕ} → run (lists resources end) f s ≡ ok tt t → {a : Result ℕ} → a ≡ count_of channel resource (run (table channels resources end) f t) → Whole a
+        pub whole-table : {t : ℕ} → run (lists resources end) f s ≡ ok tt t → {a : Result (Option ℕ)} → a ≡ found channel resource (run (table channels resources end) f t) → Whole a
         unfolding description
         whole-table e h = h ∙ simp (running, e₁, e₂, e₃, e)
 
--- ---- whether it is readable
+-- ---- what is said of it
 
 module _ (channel resource : ℕ) where
-  count-read : (o : Out Description) {n : ℕ} → good n ≡ count_of channel resource o → true ≡ is_read o
-  unfolding count_of is_read
-  count-read (ok d q) e = refl
-  count-read (refused m p) e = let z : ◌≡◌ {A = ℕ} 0 1 = cc in absurd (omega arith)
+  pub count-refused : (o : Out Description) {n p : ℕ} → bad n p ≡ found channel resource o → bad 25 p ≡ count_of channel resource o
+  unfolding count_of
+  count-refused (ok d q) e = cc
+  count-refused (refused m x) {n} {p} e = let z : p ≡ x = cc in ap (bad 25) z
 
-  -- of an item that is readable the refusal is 23
-  refused-read : (o : Out Description) {n p : ℕ} → bad n p ≡ count_of channel resource o → not (eqb n 25) ≡ is_read o
-  unfolding count_of count_at is_read
-  refused-read (ok d q) {n} {p} e = by (ltb channel d.channels && ltb resource d.resources) _ e
+  pub count-none : (o : Out Description) → good None ≡ found channel resource o → bad 23 0 ≡ count_of channel resource o
+  unfolding count_of count_at
+  count-none (ok d q) e = by (ltb channel d.channels && ltb resource d.resources) _ e
     where
-      by : (b : Bool) (v : ℕ) → bad n p ≡ cond b (good v) (bad 23 0) → not (eqb n 25) ≡ true
-      by true v x = let z : ◌≡◌ {A = ℕ} 0 1 = cc in absurd (omega arith)
-      by false v x = let z : n ≡ 23 = cc in rw z refl
-  refused-read (refused m q) {n} e = let z : n ≡ 25 = cc in rw z refl
+      by : (b : Bool) (v : ℕ) → good None ≡ good (cond b (Some v) None) → bad 23 0 ≡ cond b (good v) (bad 23 0)
+      by true v e = cc
+      by false v e = refl
+  count-none (refused m x) e = cc
 
-  module _ (f : List ℕ) (r : Item) where
-    pub readable_count : {n : ℕ} → good n ≡ count_of channel resource (run (description (r.place + r.size)) f r.place) → true ≡ is_readable f r
-    unfolding is_readable data_read
-    readable_count e = count-read _ e
+  pub count-some : (o : Out Description) {n : ℕ} → good (Some n) ≡ found channel resource o → good n ≡ count_of channel resource o
+  unfolding count_of count_at
+  count-some (ok d q) {n} e = by (ltb channel d.channels && ltb resource d.resources) _ e
+    where
+      by : (b : Bool) (v : ℕ) → good (Some n) ≡ good (cond b (Some v) None) → good n ≡ cond b (good v) (bad 23 0)
+      by true v e = cc
+      by false v e = cc
+  count-some (refused m x) e = cc
 
-    pub readable_refused : {n p : ℕ} → bad n p ≡ count_of channel resource (run (description (r.place + r.size)) f r.place) → not (eqb n 25) ≡ is_readable f r
-    unfolding is_readable data_read
-    readable_refused e = refused-read _ e
+  -- whether it is readable
+  pub read_is : (f : List ℕ) (x : Item) (r : std.Result (Option ℕ) Refusal) → told r ≡ found channel resource (run (description (x.place + x.size)) f x.place) → is_ok r ≡ is_readable f x
+  unfolding is_readable data_read is_read
+  read_is f x r e = by (run (description (x.place + x.size)) f x.place) r e
+    where
+      by : (o : Out Description) (r : std.Result (Option ℕ) Refusal) → told r ≡ found channel resource o → is_ok r ≡ is_read o
+      by (ok d q) (Ok a) e = refl
+      by (ok d q) (Err z) e = cc
+      by (refused n p) (Ok a) e = cc
+      by (refused n p) (Err z) e = refl

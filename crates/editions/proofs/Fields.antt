@@ -13,6 +13,9 @@ use lib.Dec.{eqb, leb}
 use lib.ListN.{length, get_or, drop, replicate, length-drop}
 use lib.Seq.{slice, drop-cons, get_or-drop}
 use borrow.Author.Tests.{eq-eqb, ne_eqb, eqb-true, leb-true}
+use Rattle.std.proofs.Common.{Option, Some, None}
+use Rattle.std.specs.Option.{is_some}
+use Rattle.std.proofs.lemmas.Option.{cond_some}
 use Rattle.room.specs.Decimal.{decimal, digits}
 use Rattle.editions.specs.Sheets.{Lines, parted, fields, field, same, value, is_number, is_even, is_text, is_name, fits, node, item, other, is_node, is_item, kind, is_kind}
 use Rattle.editions.specs.Reads.{number_of, fields_at, FieldIs, NoField, NumberIs, NameIs, LetterIs, is_tail, is_labelled, Known}
@@ -96,34 +99,31 @@ fits-fails p ps t ts e = rw e refl
 
 -- ---- numbers
 
-number_by_lem : (t : List ℕ) (b : Bool) → is_number t ≡ b → number_of t ≡ cond b (value 0 t) 0x10000000
-unfolding number_of
-number_by_lem t b e = rw e refl
-
 small : (t : List ℕ) → is_number t ≡ true → value 0 t ≤ 0xFFFFFFF
 unfolding is_number
 small t e = leb-true (value 0 t) 0xFFFFFFF (both_true (same t (decimal (value 0 t))) (leb (value 0 t) 0xFFFFFFF) e).1
 
-pub number-test : (t : List ℕ) → not (eqb (number_of t) 0x10000000) ≡ is_number t
-number-test t = by (is_number t) refl
+pub number-test : (t : List ℕ) → is_some (number_of t) ≡ is_number t
+unfolding number_of
+number-test t = by (is_number t)
   where
-    by : (b : Bool) → is_number t ≡ b → not (eqb (number_of t) 0x10000000) ≡ b
-    by true e = rw (number_by_lem t true e) (rw (ne_eqb (value 0 t) 0x10000000 (λ z. let w = small t e in omega arith)) refl)
-    by false e = rw (number_by_lem t false e) refl
+    by : (b : Bool) → is_some (cond b (Some (value 0 t)) None) ≡ b
+    by true = refl
+    by false = refl
 
-module _ (t : List ℕ) {v : ℕ} (e : v ≡ number_of t) where
-  pub number-none : v ≡ 0x10000000 → is_number t ≡ false
-  number-none z = sym (number-test t) ∙ rw (← e, z) refl
+pub number-none : (t : List ℕ) → None ≡ number_of t → is_number t ≡ false
+number-none t e = sym (number-test t) ∙ rw (← e) refl
 
-  pub number-some : (v ≡ 0x10000000 → ⊥) → (is_number t ≡ true) × (v ≡ value 0 t)
-  number-some n = let w : is_number t ≡ true = sym (number-test t) ∙ rw (← e) (rw (ne_eqb v 0x10000000 n) refl) in (w, e ∙ number_by_lem t true w)
+pub number-some : (t : List ℕ) {v : ℕ} → Some v ≡ number_of t → (is_number t ≡ true) × (v ≡ value 0 t)
+unfolding number_of
+number-some t {v} e = let w = cond_some (is_number t) (value 0 t) v (sym e) in (w.0, sym w.1)
 
-module _ (l : List ℕ) (at : ℕ) {r : ℕ} (k : Next 0x09 l at r) {v : ℕ} (e : v ≡ number_of (slice at r l)) where
-  pub number-no : r < length l → v ≡ 0x10000000 → NoField is_number l at
-  number-no h z = fails l at k is_number h (number-none (slice at r l) e z)
+module _ (l : List ℕ) (at : ℕ) {r : ℕ} (k : Next 0x09 l at r) where
+  pub number-no : r < length l → None ≡ number_of (slice at r l) → NoField is_number l at
+  number-no h e = fails l at k is_number h (number-none (slice at r l) e)
 
-  pub number_is : r < length l → (v ≡ 0x10000000 → ⊥) → NumberIs l at v (r + 1)
-  number_is h n = let w = number-some (slice at r l) e n in record { text = slice at r l; field = field_is l at k h; spelled = w.0; says = w.1 }
+  pub number_is : r < length l → {v : ℕ} → Some v ≡ number_of (slice at r l) → NumberIs l at v (r + 1)
+  number_is h e = let w = number-some (slice at r l) e in record { text = slice at r l; field = field_is l at k h; spelled = w.0; says = w.1 }
 
 -- `left` numbers, and nothing more
 module _ (l : List ℕ) (from left : ℕ) where
@@ -148,7 +148,7 @@ module _ (l : List ℕ) (from left : ℕ) where
     pub numbers_more : r < length l → Are ≡ false
     numbers_more m = rw h (fits_more l from k is_number m)
 
-    pub numbers-last : length l ≤ r → {v : ℕ} → v ≡ number_of (slice from r l) → not (eqb v 0x10000000) ≡ Are
+    pub numbers-last : length l ≤ r → {o : Option ℕ} → o ≡ number_of (slice from r l) → is_some o ≡ Are
     numbers-last m e = rw (e, h) (number-test (slice from r l) ∙ sym (fits_last l from k is_number m))
 
 -- ---- a letter

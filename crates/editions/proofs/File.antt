@@ -29,7 +29,7 @@ use Rattle.text.specs.Text.{plain, hexed, escaped, escaped_part, shown_or, unico
 use Rattle.sheet.specs.Sheet.{first_line, first_line2, node_line, label, text_of, item_line, visible_line, lines_of, lines2_of, sheet_of, fitting, lines_in, write, write2, write_in}
 use Rattle.sheet.specs.Sheet as sheet
 use Rattle.editions.specs.declared.State.{State}
-use Rattle.editions.specs.Sheets.{Lines, same, value, is_version, fits, parted, fields, field, word, written, lead, kind, node, item, judged, WellFormed, move}
+use Rattle.editions.specs.Sheets.{Lines, same, value, is_version, fits, parted, fields, field, word, written, lead, kind, item, judged, WellFormed, move}
 use Rattle.editions.proofs.Order.{Items}
 use Rattle.editions.proofs.Bytes.{Clean, AllClean, written-parted}
 use Rattle.editions.proofs.Bytes as pieces

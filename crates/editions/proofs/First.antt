@@ -1,14 +1,19 @@
 -- The first line, as the code reads it.
 -- Assumes nothing.
 use mathlib.Core.Path.{◌≡◌, refl, sym, ap, ◌∙◌}
-use mathlib.Core.Bool.{Bool, true, false, cond, ◌&&◌, ◌||◌}
+use mathlib.Core.Bool.{Bool, true, false, ◌&&◌, ◌||◌}
 use mathlib.Core.List.{List, [], ◌∷◌, ◌++◌}
-use Prim.Native.Nat.{ℕ, zero, suc, ◌+◌, ◌-◌, ◌≤◌, ◌<◌}
+use Prim.Native.Nat.{ℕ, ◌+◌, ◌≤◌, ◌<◌}
 use native.Mathlib.Omega.{arith}
 use lib.Dec.{eqb}
-use lib.ListN.{length, get_or, drop}
-use lib.Seq.{slice, slice-cons, slice_empty, length-slice}
-use borrow.Author.Tests.{eq-eqb, ne_eqb}
+use lib.ListN.{length, get_or, take, drop}
+use lib.Seq.{slice}
+use Rattle.std.proofs.Common.{Some, None}
+use Rattle.std.specs.Cmp.Lexicographic.{pointwise}
+use Rattle.std.proofs.lemmas.List.{append_assoc}
+use Rattle.std.proofs.lemmas.Bool.{false≢true}
+use Rattle.std.proofs.lemmas.Bool.Decides.{Decides-eqb}
+use Rattle.std.proofs.lemmas.Slice.Eq.{starts_is}
 use Rattle.room.specs.Decimal.{decimal, digits}
 use Rattle.text.specs.Text.{version_text}
 use Rattle.editions.specs.Sheets.{parted, fields, field, same, value, is_number, is_version, fits, word, is_first}
@@ -18,7 +23,7 @@ use Rattle.editions.proofs.Bytes.{piece}
 use Rattle.editions.proofs.Back.{same-is}
 use Rattle.editions.proofs.Numbers.{same_self}
 use Rattle.editions.proofs.Places.{Next}
-use Rattle.editions.proofs.Fields.{and-false, and-true, true-false, prefix_no, field_is, no_other, fails, fits_on, fits_more, fits_last, number-none, number-some}
+use Rattle.editions.proofs.Fields.{and-false, and-true, prefix_no, field_is, no_other, fails, fits_on, fits_more, fits_last, number-none, number-some}
 
 -- ---- a version
 
@@ -43,166 +48,57 @@ versions : (t : List ℕ) → is_version t ≡ (same t one-zero || same t one-on
 unfolding is_version version_text decimal digits
 versions t = refl
 
-module _ (l : List ℕ) (from end : ℕ) (m : end ≤ length l) where
-  abbrev Version : Bool
-  Version = is_version (slice from end l)
+-- two texts, byte by byte
+points-same : (t v : List ℕ) → pointwise eqb t v ≡ same t v
+unfolding same
+points-same [] [] = refl
+points-same [] (y ∷ v) = refl
+points-same (x ∷ t) [] = refl
+points-same (x ∷ t) (y ∷ v) = ap (λ b. eqb x y && b) (points-same t v)
 
-  pub version-long : (end - from ≡ 4 → ⊥) → false ≡ Version
-  version-long n =
-      let w = length-slice from end l m in
-      sym (versions (slice from end l) ∙ rw (
-        same-long (slice from end l) one-zero (λ e. n (sym w ∙ e)),
-        same-long (slice from end l) one-one (λ e. n (sym w ∙ e)),
-        same-long
-            (slice from end l) two-zero (λ e. n (sym w ∙ e)),
-      ) refl)
+-- the tests of a version, one after the other
+module _ (t : List ℕ) {a : Bool} {u : List ℕ} (e : a ≡ pointwise eqb t u) (ue : u ≡ one-zero) where
+  at_first : same t one-zero ≡ a
+  at_first = sym (points-same t one-zero) ∙ ap (pointwise eqb t) (sym ue) ∙ sym e
 
-  module _ (n : end - from ≡ 4) where
-    abbrev a : ℕ
-    a = get_or l from 0
+  pub version-one : a ≡ true → true ≡ is_version t
+  version-one h = sym (versions t ∙ rw (at_first, h) refl)
 
-    abbrev b : ℕ
-    b = get_or l (from + 1) 0
+  module _ (n : a ≡ false) {b : Bool} {v : List ℕ} (f : b ≡ pointwise eqb t v) (ve : v ≡ one-one) where
+    at_next : same t one-one ≡ b
+    at_next = sym (points-same t one-one) ∙ ap (pointwise eqb t) (sym ve) ∙ sym f
 
-    abbrev c : ℕ
-    c = get_or l (from + 2) 0
+    pub version-next : b ≡ true → true ≡ is_version t
+    version-next h = sym (versions t ∙ rw (at_first, n, at_next, h) refl)
 
-    abbrev d : ℕ
-    d = get_or l (from + 3) 0
-
-    four : slice from end l ≡ a ∷ b ∷ c ∷ d ∷ []
-    four =
-        let e₁ : suc from ≡ from + 1 = omega arith in let e₂ : suc (from + 1) ≡ from + 2 = omega arith in
-        let e₃ : suc (from + 2) ≡ from + 3 = omega arith in let e₄ : suc (from + 3) ≡ end = omega arith in
-        slice-cons from end l 0 (omega arith) m
-        ∙ ap (λ v. a ∷ v) (ap (λ k. slice k end l) e₁ ∙ slice-cons (from + 1) end l 0 (omega arith) m
-        ∙ ap (λ v. b ∷ v) (ap (λ k. slice k end l) e₂ ∙ slice-cons (from + 2) end l 0 (omega arith) m
-        ∙ ap (λ v. c ∷ v) (ap (λ k. slice k end l) e₃ ∙ slice-cons (from + 3) end l 0 (omega arith) m
-        ∙ ap (λ v. d ∷ v) (ap (λ k. slice k end l) e₄ ∙ slice_empty end l))))
-
-    version-by : Version ≡ ((eqb a 0x31 && (eqb b 0x2E && (eqb c 0x30 && (eqb d 0x30 && true)))) ||
-        (eqb a 0x31 && (eqb b 0x2E && (eqb c 0x30 && (eqb d 0x31 && true)))) ||
-        (eqb a 0x32 && (eqb b 0x2E && (eqb c 0x30 && (eqb d 0x30 && true)))))
-    unfolding same
-    version-by = ap is_version four ∙ versions (a ∷ b ∷ c ∷ d ∷ [])
-
-    -- the truth values of the tests, by name
-    version-from : {p q r s t u : Bool} → eqb a 0x31 ≡ p → eqb a 0x32 ≡ q → eqb b 0x2E ≡ r → eqb c 0x30 ≡ s → eqb d 0x30 ≡ t → eqb d 0x31 ≡ u
-        → Version ≡ ((p && (r && (s && (t && true)))) || (p && (r && (s && (u && true)))) || (q && (r && (s && (t && true)))))
-    version-from e₁ e₂ e₃ e₄ e₅ e₆ = version-by ∙ rw (e₁, e₂, e₃, e₄, e₅, e₆) refl
-
-    none : (p q s t u : Bool) → ((p && (false && (s && (t && true)))) || (p && (false && (s && (u && true)))) || (q && (false && (s && (t && true))))) ≡ false
-    none p q s t u = rw (and-false p, and-false q) refl
-
-    pub version-dot : (b ≡ 0x2E → ⊥) → false ≡ Version
-    version-dot h = sym (version-from refl refl (ne_eqb b 0x2E h) refl refl refl ∙ none (eqb a 0x31) (eqb a 0x32) (eqb c 0x30) (eqb d 0x30) (eqb d 0x31))
-
-    module _ (dot : b ≡ 0x2E) where
-      none₂ : (p q t u : Bool) → ((p && (true && (false && (t && true)))) || (p && (true && (false && (u && true)))) || (q && (true && (false && (t && true))))) ≡ false
-      none₂ p q t u = rw (and-false p, and-false q) refl
-
-      pub version-zero : (c ≡ 0x30 → ⊥) → false ≡ Version
-      version-zero h = sym (version-from refl refl (eq-eqb b 0x2E dot) (ne_eqb c 0x30 h) refl refl ∙ none₂ (eqb a 0x31) (eqb a 0x32) (eqb d 0x30) (eqb d 0x31))
-
-      module _ (zero_is : c ≡ 0x30) where
-        pub version-two : a ≡ 0x32 → eqb d 0x30 ≡ Version
-        version-two h = sym (version-from (ne_eqb a 0x31 (λ e. omega arith)) (eq-eqb a 0x32 h) (eq-eqb b 0x2E dot) (eq-eqb c 0x30 zero_is) refl refl ∙ and-true (eqb d 0x30))
-
-        module _ (n₂ : a ≡ 0x32 → ⊥) where
-          pub version-none : (a ≡ 0x31 → ⊥) → false ≡ Version
-          version-none h = sym (version-from (ne_eqb a 0x31 h) (ne_eqb a 0x32 n₂) refl refl refl refl)
-
-          module _ (one : a ≡ 0x31) where
-            pub version-first : d ≡ 0x30 → true ≡ Version
-            version-first h = sym (version-from (eq-eqb a 0x31 one) (ne_eqb a 0x32 n₂) (eq-eqb b 0x2E dot) (eq-eqb c 0x30 zero_is) (eq-eqb d 0x30 h) refl)
-
-            pub version-second : (d ≡ 0x30 → ⊥) → eqb d 0x31 ≡ Version
-            version-second h = sym (version-from (eq-eqb a 0x31 one) (ne_eqb a 0x32 n₂) (eq-eqb b 0x2E dot) (eq-eqb c 0x30 zero_is) (ne_eqb d 0x30 h) refl ∙ last (eqb d 0x31))
-              where
-                last : (u : Bool) → ((u && true) || false) ≡ u
-                last true = refl
-                last false = refl
+    pub version-last : b ≡ false → {d : Bool} {w : List ℕ} → d ≡ pointwise eqb t w → w ≡ two-zero → d ≡ is_version t
+    version-last m {d} {w} g we =
+        let k : same t two-zero ≡ d = sym (points-same t two-zero) ∙ ap (pointwise eqb t) (sym we) ∙ sym g in
+        sym (versions t ∙ rw (at_first, n, at_next, m, k) refl)
 
 -- ---- the word
 
--- what a line that begins with a word and a tab has at each place
-record Begins (l : List ℕ) (e : Bool) : Type 0 where
-  x : get_or l 0 0 ≡ 0x58
-  m : get_or l 1 0 ≡ 0x4D
-  f : get_or l 2 0 ≡ 0x46
-  fourth : get_or l 3 0 ≡ cond e 0x32 0x09
-  fifth : e ≡ true → (get_or l 4 0 ≡ 0x09) × (5 ≤ length l)
-  long : 4 ≤ length l
-
-begins : (l : List ℕ) (e : Bool) (t : List ℕ) → l ≡ word e ++ 0x09 ∷ t → Begins l e
-begins l false t h = rw h (record { x = refl; m = refl; f = refl; fourth = refl; fifth = λ e. true-false {b = false} e refl; long = omega arith })
-begins l true t h = rw h (record { x = refl; m = refl; f = refl; fourth = refl; fifth = λ e. (refl, omega arith); long = omega arith })
+-- what a line begins with that begins with an edition's word and a tab
+abbrev pub begun : Bool → List ℕ
+begun e = word e ++ 0x09 ∷ []
 
 module _ (l : List ℕ) where
-  no_word : ((e : Bool) → Begins l e → ⊥) → (e : Bool) → NoField (same (word e)) l 0
-  no_word n e q ps = prefix_no (word e) l (λ t h. n e (begins l e t h)) q ps (fields_at l 0) refl
+  begins : (e : Bool) {b : Bool} → b ≡ pointwise eqb (begun e) (take (length (begun e)) l) → (b ≡ true → l ≡ begun e ++ drop (length (begun e)) l) × ((rest : List ℕ) → l ≡ begun e ++ rest → b ≡ true)
+  begins e {b} = starts_is Decides-eqb l (begun e) b
 
-  pub word-short : length l < 4 → (e : Bool) → NoField (same (word e)) l 0
-  word-short h = no_word (λ e b. let k = b.long in omega arith)
-
-  pub word-x : (get_or l 0 0 ≡ 0x58 → ⊥) → (e : Bool) → NoField (same (word e)) l 0
-  word-x h = no_word (λ e b. h b.x)
-
-  pub word-m : (get_or l 1 0 ≡ 0x4D → ⊥) → (e : Bool) → NoField (same (word e)) l 0
-  word-m h = no_word (λ e b. h b.m)
-
-  pub word-f : (get_or l 2 0 ≡ 0x46 → ⊥) → (e : Bool) → NoField (same (word e)) l 0
-  word-f h = no_word (λ e b. h b.f)
-
-  pub word-fourth : (get_or l 3 0 ≡ 0x09 → ⊥) → (get_or l 3 0 ≡ 0x32 → ⊥) → (e : Bool) → NoField (same (word e)) l 0
-  word-fourth h k = no_word (λ e b. by e b.fourth)
+  pub word-here : (e : Bool) {b : Bool} → b ≡ pointwise eqb (begun e) (take (length (begun e)) l) → b ≡ true → FieldIs l 0 (word e) (length (begun e))
+  word-here e w t = by e ((begins e w).0 t)
     where
-      by : (e : Bool) → get_or l 3 0 ≡ cond e 0x32 0x09 → ⊥
-      by true w = k w
-      by false w = h w
+      by : (e : Bool) → l ≡ begun e ++ drop (length (begun e)) l → FieldIs l 0 (word e) (length (begun e))
+      by false h = record { inside = let a = ap length h in omega arith; next = ap (parted 0x09) h ∙ piece 0x09 (word false) (drop 4 l) (refl, (refl, (refl, tt))) }
+      by true h = record { inside = let a = ap length h in omega arith; next = ap (parted 0x09) h ∙ piece 0x09 (word true) (drop 5 l) (refl, (refl, (refl, (refl, tt)))) }
 
-  module _ (two : get_or l 3 0 ≡ 0x32) where
-    pub word-five : length l < 5 → (e : Bool) → NoField (same (word e)) l 0
-    word-five h = no_word by
-      where
-        by : (e : Bool) → Begins l e → ⊥
-        by true b = let k = (b.fifth refl).1 in omega arith
-        by false b = let k = b.fourth in omega arith
+  word_no : (e : Bool) {b : Bool} → b ≡ pointwise eqb (begun e) (take (length (begun e)) l) → b ≡ false → NoField (same (word e)) l 0
+  word_no e w f q ps = prefix_no (word e) l (λ t h. false≢true (sym f ∙ (begins e w).1 t (h ∙ sym (append_assoc (word e) (0x09 ∷ []) t)))) q ps (fields_at l 0) refl
 
-    pub word-fifth : (get_or l 4 0 ≡ 0x09 → ⊥) → (e : Bool) → NoField (same (word e)) l 0
-    word-fifth h = no_word by
-      where
-        by : (e : Bool) → Begins l e → ⊥
-        by true b = h (b.fifth refl).0
-        by false b = let k = b.fourth in omega arith
-
-four-first : (l : List ℕ) → 4 ≤ length l → l ≡ get_or l 0 0 ∷ get_or l 1 0 ∷ get_or l 2 0 ∷ get_or l 3 0 ∷ drop 4 l
-four-first [] h = absurd (omega arith)
-four-first (a ∷ []) h = absurd (omega arith)
-four-first (a ∷ b ∷ []) h = absurd (omega arith)
-four-first (a ∷ b ∷ c ∷ []) h = absurd (omega arith)
-four-first (a ∷ b ∷ c ∷ d ∷ l) h = refl
-
-five_first : (l : List ℕ) → 5 ≤ length l → l ≡ get_or l 0 0 ∷ get_or l 1 0 ∷ get_or l 2 0 ∷ get_or l 3 0 ∷ get_or l 4 0 ∷ drop 5 l
-five_first [] h = absurd (omega arith)
-five_first (a ∷ []) h = absurd (omega arith)
-five_first (a ∷ b ∷ []) h = absurd (omega arith)
-five_first (a ∷ b ∷ c ∷ []) h = absurd (omega arith)
-five_first (a ∷ b ∷ c ∷ d ∷ []) h = absurd (omega arith)
-five_first (a ∷ b ∷ c ∷ d ∷ e ∷ l) h = refl
-
-module _ (l : List ℕ) (x : get_or l 0 0 ≡ 0x58) (m : get_or l 1 0 ≡ 0x4D) (f : get_or l 2 0 ≡ 0x46) where
-  pub word_first : 4 ≤ length l → get_or l 3 0 ≡ 0x09 → FieldIs l 0 (word false) 4
-  word_first h tab = record {
-    inside = h;
-    next = ap (parted 0x09) (four-first l h ∙ rw (x, m, f, tab) refl) ∙ piece 0x09 (word false) (drop 4 l) (refl, (refl, (refl, tt)));
-  }
-
-  pub word-second : 5 ≤ length l → get_or l 3 0 ≡ 0x32 → get_or l 4 0 ≡ 0x09 → FieldIs l 0 (word true) 5
-  word-second h two tab = record {
-    inside = h;
-    next = ap (parted 0x09) (five_first l h ∙ rw (x, m, f, two, tab) refl) ∙ piece 0x09 (word true) (drop 5 l) (refl, (refl, (refl, (refl, tt))));
-  }
+  pub word-none : {a b : Bool} → a ≡ pointwise eqb (begun false) (take 4 l) → b ≡ pointwise eqb (begun true) (take 5 l) → a ≡ false → b ≡ false → (e : Bool) → NoField (same (word e)) l 0
+  word-none v w f g false = word_no false v f
+  word-none v w f g true = word_no true w g
 
 -- ---- version, length, counts
 
@@ -258,13 +154,13 @@ module _ (l : List ℕ) (second : Bool) (at : ℕ) (w : FieldIs l 0 (word second
             pub lead-more : last < length l → (e : Bool) → is_first e l ≡ false
             lead-more m = lead-no (after-nodes ∙ fits_more l c k₂ is_number m)
 
-            module _ (m : length l ≤ last) {items : ℕ} (ie : items ≡ number_of (slice c last l)) where
-              pub lead-items : items ≡ 0x10000000 → (e : Bool) → is_first e l ≡ false
-              lead-items z = lead-no (after-nodes ∙ fits_last l c k₂ is_number m ∙ number-none (slice c last l) ie z)
+            module _ (m : length l ≤ last) where
+              pub lead-items : None ≡ number_of (slice c last l) → (e : Bool) → is_first e l ≡ false
+              lead-items z = lead-no (after-nodes ∙ fits_last l c k₂ is_number m ∙ number-none (slice c last l) z)
 
-              module _ (some : items ≡ 0x10000000 → ⊥) where
+              module _ {items : ℕ} (some : Some items ≡ number_of (slice c last l)) where
                 all_fit : fits tests (fields_at l at) ≡ true
-                all_fit = after-nodes ∙ fits_last l c k₂ is_number m ∙ (number-some (slice c last l) ie some).0
+                all_fit = after-nodes ∙ fits_last l c k₂ is_number m ∙ (number-some (slice c last l) some).0
 
                 -- the fields
                 all-fields : fields_at l 0 ≡ word second ∷ slice at end l ∷ n₁.text ∷ n₂.text ∷ slice c last l ∷ []
@@ -277,7 +173,7 @@ module _ (l : List ℕ) (second : Bool) (at : ℕ) (w : FieldIs l 0 (word second
                   right = first_by second ∙ rw (same_self (word second), all_fit) refl;
                   says = first_by true ∙ rw all_fit (and-true (same (word true) (word second))) ∙ edition second;
                   nodes-are = n₂.says ∙ ap (value 0) (sym (at_field 3 l ∙ ap (λ ts. get_or ts 3 []) all-fields));
-                  items-are = (number-some (slice c last l) ie some).1 ∙ ap (value 0) (sym (at_field 4 l ∙ ap (λ ts. get_or ts 4 []) all-fields));
+                  items-are = (number-some (slice c last l) some).1 ∙ ap (value 0) (sym (at_field 4 l ∙ ap (λ ts. get_or ts 4 []) all-fields));
                 }
                   where
                     edition : (e : Bool) → same (word true) (word e) ≡ e

@@ -10,9 +10,11 @@ use native.Mathlib.Decide.{dec_lt}
 use native.Mathlib.Omega.{arith}
 use native.Mathlib.Numerals.{add-one}
 use lib.Dec.{eqb, leb, ltb}
-use lib.ListN.{length, get_or, drop, take, drop_of_length-le}
-use lib.Seq.{drop-cons, slice, slice-cons, length-take-le}
-use borrow.Author.Tests.{eq-eqb, ne_eqb, leb-true, le-leb, lt-ltb, le-ltb}
+use lib.ListN.{length, get_or, drop, drop_of_length-le}
+use lib.Seq.{drop-cons}
+use borrow.Author.Tests.{eq-eqb, ne_eqb, eqb-true, leb-true, le-leb, lt-ltb, le-ltb}
+use Rattle.std.proofs.Common.{Some, None}
+use Rattle.std.proofs.lemmas.Bool.{false≢true}
 use Rattle.room.specs.Decimal.{digits, decimal}
 use Rattle.editions.specs.Sheets.{same, value, is_number, parted, lead, on_first}
 use Rattle.editions.specs.Reads.{number_of}
@@ -94,17 +96,17 @@ unfolding same
 same_self [] = refl
 same_self (b ∷ t) = rw (eq-eqb b b refl) (same_self t)
 
-pub number_is : (t : List ℕ) (v : ℕ) → t ≡ decimal v → value 0 t ≡ v → v ≤ 0xFFFFFFF → v ≡ number_of t
+pub number_is : (t : List ℕ) (v : ℕ) → t ≡ decimal v → value 0 t ≡ v → v ≤ 0xFFFFFFF → Some v ≡ number_of t
 unfolding number_of is_number
 number_is t v e q l = rw q (rw (sym e) (rw (same_self t) (rw (le-leb v 0xFFFFFFF l) refl)))
 
-no-number_on : (a b : Bool) (n : ℕ) → (a ≡ true → b ≡ true → ⊥) → 0x10000000 ≡ cond (a && b) n 0x10000000
+no-number_on : (a b : Bool) (n : ℕ) → (a ≡ true → b ≡ true → ⊥) → None ≡ cond (a && b) (Some n) None
 no-number_on true true n h = absurd (h refl refl)
 no-number_on true false n h = refl
 no-number_on false b n h = refl
 
 -- no number: where it is not the decimal of a small one
-pub no_number : (t : List ℕ) → ((n : ℕ) → t ≡ decimal n → value 0 t ≡ n → n ≤ 0xFFFFFFF → ⊥) → 0x10000000 ≡ number_of t
+pub no_number : (t : List ℕ) → ((n : ℕ) → t ≡ decimal n → value 0 t ≡ n → n ≤ 0xFFFFFFF → ⊥) → None ≡ number_of t
 unfolding number_of is_number
 no_number t h = no-number_on (same t (decimal (value 0 t))) (leb (value 0 t) 0xFFFFFFF) (value 0 t)
     (λ a b. h (value 0 t) (same-is t (decimal (value 0 t)) a) refl (leb-true (value 0 t) 0xFFFFFFF b))
@@ -117,10 +119,10 @@ decimal-some n e = some (cond (ltb n 10) [] (digits 19 (n / 10))) (0x30 + n % 10
     some [] b e = let z : ◌≡◌ {A = ℕ} 0 1 = cc in omega arith
     some (x ∷ a) b e = let z : ◌≡◌ {A = ℕ} 0 1 = cc in omega arith
 
-pub number-empty : (t : List ℕ) → t ≡ [] → 0x10000000 ≡ number_of t
+pub number-empty : (t : List ℕ) → t ≡ [] → None ≡ number_of t
 number-empty t e = no_number t (λ n d q l. decimal-some n (sym e ∙ d))
 
-pub number-zero : (t : List ℕ) → t ≡ 0x30 ∷ [] → 0 ≡ number_of t
+pub number-zero : (t : List ℕ) → t ≡ 0x30 ∷ [] → Some 0 ≡ number_of t
 unfolding value
 number-zero t e = number_is t 0 (e ∙ sym (decimal-one 0 (omega arith))) (ap (value 0) e ∙ zero-says) (omega arith)
   where
@@ -130,7 +132,7 @@ number-zero t e = number_is t 0 (e ∙ sym (decimal-one 0 (omega arith))) (ap (v
 headed_not : (x : ℕ) (u : List ℕ) → Headed (x ∷ u) → x ≡ 0x30 → ⊥
 headed_not x u h e = h e
 
-pub number-padded : (t : List ℕ) (x : ℕ) (u : List ℕ) → t ≡ 0x30 ∷ x ∷ u → 0x10000000 ≡ number_of t
+pub number-padded : (t : List ℕ) (x : ℕ) (u : List ℕ) → t ≡ 0x30 ∷ x ∷ u → None ≡ number_of t
 unfolding decimal
 number-padded t x u e = no_number t (λ n d q l. elim (dec_lt 0 n) [
   | yes z ↦ headed_not 0x30 (x ∷ u) (subst Headed (sym d ∙ e) (headed 20 n z (omega arith))) refl
@@ -186,14 +188,14 @@ module _ {t : List ℕ} {v : ℕ} (d : ℕ) {rest : List ℕ} (r : Reading t v (
         | no z ↦ absurd (n (omega arith))
       ]
 
-  pub reading-over : 0xFFFFFFF < v * 10 + (d - 0x30) → 0x10000000 ≡ number_of t
+  pub reading-over : 0xFFFFFFF < v * 10 + (d - 0x30) → None ≡ number_of t
   reading-over l = no_number t (λ n e q s. let a = grows (v * 10 + (d - 0x30)) rest in let b = r.says in let c = value_on v d rest in omega arith)
 
-  pub reading-bad : ((0x30 ≤ d) × (d ≤ 0x39) → ⊥) → 0x10000000 ≡ number_of t
+  pub reading-bad : ((0x30 ≤ d) × (d ≤ 0x39) → ⊥) → None ≡ number_of t
   unfolding decimal
   reading-bad h = no_number t (λ n e q s. h (digit_at r.pre d rest (subst Digits (sym e ∙ r.whole) (digits_are 20 n))))
 
-pub reading-end : {t : List ℕ} {v : ℕ} (rest : List ℕ) → Reading t v rest → rest ≡ [] → (t ≡ [] → ⊥) → v ≡ number_of t
+pub reading-end : {t : List ℕ} {v : ℕ} (rest : List ℕ) → Reading t v rest → rest ≡ [] → (t ≡ [] → ⊥) → Some v ≡ number_of t
 unfolding value
 reading-end {t} {v} rest r z h = elim r.spelled [
   | inl (e, w) ↦ absurd (h (r.whole ∙ ap₂ (λ (a b : List ℕ). a ++ b) e z))
@@ -239,71 +241,51 @@ module _ (s : List ℕ) (at c i : ℕ) (k : Seeking s at c i) where
 
 -- ---- the loop over a field
 
-module _ (s : List ℕ) (from end : ℕ) (b : end ≤ length s) where
-  field_past : (i : ℕ) → end ≤ i → slice i end s ≡ []
-  field_past i l = let z = length-take-le end s b in let k : length (take end s) ≤ i = omega arith in drop_of_length-le (take end s) k
+-- a 0 before other digits
+pub number-zeros : (t : List ℕ) → (t ≡ 0x30 ∷ [] → ⊥) → 0 < length t → get_or t 0 0 ≡ 0x30 → None ≡ number_of t
+number-zeros [] n l e = absurd (omega arith)
+number-zeros (x ∷ []) n l e = absurd (n (ap (λ (d : ℕ). d ∷ []) e))
+number-zeros (x ∷ y ∷ u) n l e = number-padded (x ∷ y ∷ u) y u (ap (λ (d : ℕ). d ∷ y ∷ u) e)
 
-  pub field-on : (i : ℕ) → i < end → slice i end s ≡ get_or s i 0 ∷ slice (i + 1) end s
-  field-on i l = slice-cons i end s 0 l b ∙ ap (λ (n : ℕ). get_or s i 0 ∷ slice n end s) (sym (add-one i))
+-- a length that is tested
+pub no-length : (t : List ℕ) → eqb (length t) 0 ≡ true → t ≡ []
+no-length [] e = refl
+no-length (x ∷ t) e = absurd (omega (arith, eqb-true (length (x ∷ t)) 0 e))
 
-  pub field-some : from < end → slice from end s ≡ [] → ⊥
-  field-some l e = let z = sym (field-on from l) ∙ e in let y : ◌≡◌ {A = ℕ} 0 1 = cc in omega arith
-
-  pub field-headed : from < end → (get_or s from 0 ≡ 0x30 → ⊥) → Headed (slice from end s)
-  field-headed l n = rw (field-on from l) n
-
-  pub field-none : end ≤ from → 0x10000000 ≡ number_of (slice from end s)
-  field-none l = number-empty (slice from end s) (field_past from l)
-
-  pub field-zero : from < end → get_or s from 0 ≡ 0x30 → end - from ≡ 1 → 0 ≡ number_of (slice from end s)
-  field-zero l e k = number-zero (slice from end s) (field-on from l ∙ ap₂ (λ (x : ℕ) (u : List ℕ). x ∷ u) e (field_past (from + 1) (omega arith)))
-
-  pub field-padded : from < end → get_or s from 0 ≡ 0x30 → (end - from ≡ 1 → ⊥) → 0x10000000 ≡ number_of (slice from end s)
-  field-padded l e k = number-padded (slice from end s) (get_or s (from + 1) 0) (slice (from + 1 + 1) end s)
-      (field-on from l ∙ ap₂ (λ (x : ℕ) (u : List ℕ). x ∷ u) e (field-on (from + 1) (more k)))
-    where
-      more : (end - from ≡ 1 → ⊥) → from + 1 < end
-      more k = elim (dec_lt (from + 1) end) [
-        | yes z ↦ z
-        | no z ↦ absurd (k (omega arith))
-      ]
+pub some-length : (t : List ℕ) → eqb (length t) 0 ≡ false → 0 < length t
+some-length [] e = absurd (false≢true (sym e))
+some-length (x ∷ t) e = omega arith
 
 -- v is read, the digits from i on are not
-pub record Digit (s : List ℕ) (from end v i : ℕ) : Type 0 where
-  pub some : from < end
-  pub inside : end ≤ length s
-  pub within : i ≤ end
-  pub headed : Headed (slice from end s)
-  pub reading : Reading (slice from end s) v (slice i end s)
+pub record Digit (t : List ℕ) (v i : ℕ) : Type 0 where
+  pub some : 0 < length t
+  pub headed : Headed t
+  pub reading : Reading t v (drop i t)
 
-pub digit_start : (s : List ℕ) (from end : ℕ) → end ≤ length s → from < end → (get_or s from 0 ≡ 0x30 → ⊥) → Digit s from end 0 from
-digit_start s from end b l n = record { some = l; inside = b; within = omega arith; headed = field-headed s from end b l n; reading = reading-start (slice from end s) }
+pub digit_start : (t : List ℕ) → 0 < length t → (get_or t 0 0 ≡ 0x30 → ⊥) → Digit t 0 0
+digit_start [] l n = absurd (omega arith)
+digit_start (x ∷ t) l n = record { some = l; headed = n; reading = reading-start (x ∷ t) }
 
-pub digit_small : {s : List ℕ} {from end v i : ℕ} → Digit s from end v i → v ≤ 0xFFFFFFF
+pub digit_small : {t : List ℕ} {v i : ℕ} → Digit t v i → v ≤ 0xFFFFFFF
 digit_small r = r.reading.small
 
-module _ {s : List ℕ} {from end v i : ℕ} (r : Digit s from end v i) (l : i < end) where
-  now : Reading (slice from end s) v (get_or s i 0 ∷ slice (i + 1) end s)
-  now = rw (field-on s from end r.inside i l) at r.reading
+module _ {t : List ℕ} {v i : ℕ} (r : Digit t v i) (l : i < length t) where
+  now : Reading t v (get_or t i 0 ∷ drop (i + 1) t)
+  now = rw (drop-cons t i 0 l, ← add-one i) at r.reading
 
-  pub digit_low : {d : ℕ} → d ≡ get_or s i 0 → d < 0x30 → 0x10000000 ≡ number_of (slice from end s)
-  digit_low e k = reading-bad (get_or s i 0) now (λ q. omega arith)
+  pub digit_bad : {d : ℕ} → d ≡ get_or t i 0 → (d < 0x30) ⊎ ((0x30 ≤ d) × (0x39 < d)) → None ≡ number_of t
+  digit_bad e (inl k) = reading-bad (get_or t i 0) now (λ q. omega arith)
+  digit_bad e (inr k) = reading-bad (get_or t i 0) now (λ q. let h = k.1 in omega arith)
 
-  pub digit_high : {d : ℕ} → d ≡ get_or s i 0 → 0x39 < d → 0x10000000 ≡ number_of (slice from end s)
-  digit_high e k = reading-bad (get_or s i 0) now (λ q. omega arith)
+  pub digit_over : {d : ℕ} → d ≡ get_or t i 0 → 0xFFFFFFF < v * 10 + (d - 0x30) → None ≡ number_of t
+  digit_over e k = reading-over (get_or t i 0) now (rw e at k)
 
-  pub digit_over : {d : ℕ} → d ≡ get_or s i 0 → 0xFFFFFFF < v * 10 + (d - 0x30) → 0x10000000 ≡ number_of (slice from end s)
-  digit_over e k = reading-over (get_or s i 0) now (rw e at k)
-
-  pub digit_on : {d : ℕ} → d ≡ get_or s i 0 → 0x30 ≤ d → d ≤ 0x39 → v * 10 + (d - 0x30) ≤ 0xFFFFFFF → Digit s from end (v * 10 + (d - 0x30)) (i + 1)
+  pub digit_on : {d : ℕ} → d ≡ get_or t i 0 → 0x30 ≤ d → d ≤ 0x39 → v * 10 + (d - 0x30) ≤ 0xFFFFFFF → Digit t (v * 10 + (d - 0x30)) (i + 1)
   digit_on e a c k = record {
     some = r.some;
-    inside = r.inside;
-    within = omega arith;
     headed = r.headed;
-    reading = rw e
-        (reading-on (get_or s i 0) now r.headed (omega arith) (omega arith) (rw e at k));
+    reading = rw e (reading-on (get_or t i 0) now r.headed (omega arith) (omega arith) (rw e at k));
   }
 
-pub digit_end : {s : List ℕ} {from end v i : ℕ} → Digit s from end v i → end ≤ i → v ≡ number_of (slice from end s)
-digit_end {s} {from} {end} {v} {i} r k = reading-end (slice i end s) r.reading (field_past s from end r.inside i k) (field-some s from end r.inside r.some)
+pub digit_end : {t : List ℕ} {v i : ℕ} → Digit t v i → length t ≤ i → Some v ≡ number_of t
+digit_end {t} {v} {i} r k = reading-end (drop i t) r.reading (drop_of_length-le t k) (λ e. let a = ap length e in let b = r.some in omega arith)

@@ -8,7 +8,6 @@ use Prim.{Unit, tt}
 use Prim.Native.Nat.{ℕ, ◌+◌, ◌-◌, ◌≤◌, ◌<◌}
 use native.Mathlib.Decide.{ℕ_discrete}
 use native.Mathlib.Omega.{arith}
-use lib.Dec.{eqb}
 use borrow.Author.Tests.{eq-eqb, ne_eqb}
 use Rattle.editions.specs.Sheets.{Lines, Kind, node, item, other, kind, picked, is_of, nodes_of, items_of, items_at, named, spread, reordered}
 use Rattle.editions.specs.Reads.{run_of, past_run, walk}

@@ -3,6 +3,9 @@
 use mathlib.Core.Path.{◌≡◌, refl, sym, ap, ap₂, ◌∙◌, subst}
 use mathlib.Core.Bool.{Bool, true, false, cond}
 use mathlib.Core.List.{List, [], ◌∷◌, ◌++◌, head-eq_of_cons-eq, tail-eq_of_cons-eq}
+use Rattle.std.proofs.Common.{Option, Some, None, Result, Ok, Err, IsErrAnd}
+use Rattle.std.specs.Option.{ok_or}
+use Rattle.std.proofs.lemmas.Result.{err_from_is_err_and}
 use Prim.Native.Nat.{ℕ, ◌+◌, ◌≤◌, ◌<◌}
 use native.Mathlib.Omega.{arith}
 use lib.Dec.{eqb}
@@ -18,6 +21,23 @@ use Rattle.editions.proofs.Bytes.{some-piece, split}
 -- what a call answered, where its contract is a relation and the answer is known
 pub as_told : {E : Type 0} (P : E → Type 0) {r r' : E} → P r → r ≡ r' → P r'
 as_told P h e = subst P e h
+
+pub absent : {A : Type 0} {o : Option A} → ((a : A) → o ≡ Some a → ⊥) → o ≡ None
+absent {o = None} h = refl
+absent {o = Some a} h = absurd (h a refl)
+
+-- what `ok_or` was given, by what it answers
+pub was_some : {A E : Type 0} (o : Option A) (e : E) {q : Result A E} {a : A} → q ≡ ok_or o e → q ≡ Ok a → o ≡ Some a
+was_some None e k h = cc
+was_some (Some y) e k h = cc
+
+pub was_none : {A E : Type 0} (o : Option A) (e : E) {q : Result A E} {x : E} → q ≡ ok_or o e → q ≡ Err x → (o ≡ None) × (x ≡ e)
+was_none None e k h = (refl, cc)
+was_none (Some y) e k h = cc
+
+-- what a `?` passes on
+pub passed_on : {A E : Type 0} {q : Result A E} {x : E} → IsErrAnd q (λ y. y ≡ x) → q ≡ Err x
+passed_on {q} h = let p = err_from_is_err_and q h in p.1 ∙ ap Err p.2
 
 alone-on : (c b : ℕ) (u : List ℕ) → ((w : List ℕ) → parted c u ≡ w ∷ [] → u ≡ w) → (t : Bool) (ps : Lines) → parted c u ≡ ps →
     (w : List ℕ) → cond t ([] ∷ ps) (on_first b ps) ≡ w ∷ [] → b ∷ u ≡ w

@@ -1,11 +1,11 @@
 -- What the code reads of a sheet, in the terms of its contracts: fields of a line by their places, the rest of an item line, the order of lines as it is put.
 -- Assumes nothing.
-use Rattle.std.specs.Prelude.{◌≡◌, ◌⊎◌, Bool, true, false, cond, ◌||◌, List, [], ◌∷◌, ◌++◌, ℕ, ◌+◌, ◌≤◌, length, get_or, drop}
+use Rattle.std.specs.Prelude.{◌≡◌, ◌⊎◌, Option, Some, None, Bool, true, false, cond, ◌||◌, List, [], ◌∷◌, ◌++◌, ℕ, ◌+◌, ◌≤◌, length, get_or, drop}
 use Rattle.editions.specs.Sheets.{Lines, parted, same, value, is_number, is_even, is_text, is_name, fits, other, kind, is_of}
 
--- a field's number; one more than the greatest where it is none
-unfoldable pub number_of : List ℕ → ℕ
-number_of t = cond (is_number t) (value 0 t) 0x10000000
+-- a field's number, if it is one
+unfoldable pub number_of : List ℕ → Option ℕ
+number_of t = cond (is_number t) (Some (value 0 t)) None
 
 -- the fields of a line from a place on
 abbrev pub fields_at : List ℕ → ℕ → Lines

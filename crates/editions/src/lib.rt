@@ -9,9 +9,6 @@ ghost use Rattle.editions.specs.Sheets.{parted, lead, is_number, nibble, is_esca
 ghost use Rattle.editions.specs.Reads.{number_of, fields_at, FieldIs, LetterIs, is_tail, is_labelled};
 ghost use Rattle.editions.specs.Told.{NumberAt, NameAt, line_told, WordAt, LeadAt, step_told, body_told, JudgedAs};
 
-// Not a number of a sheet: one more than the greatest.
-const NONE: u64 = 0x10000000;
-
 // Nodes and items so far; no item may be of an earlier node than the least.
 #[derive(Clone, Copy)]
 pub struct State {
@@ -20,62 +17,12 @@ pub struct State {
     pub least: u64,
 }
 
-// A number and where the next field begins.
-#[derive(Clone, Copy)]
-pub enum Found {
-    Is(u64, usize),
-    No,
-}
-
-// Where the next field begins.
-#[derive(Clone, Copy)]
-enum Passed {
-    To(usize),
-    No,
-}
-
 // A node's line with its row, an item's line with its node.
 #[derive(Clone, Copy)]
 enum Line {
     Node(u64),
     Item(u64),
     Other,
-}
-
-// The first word of a sheet: which edition it is of.
-#[derive(Clone, Copy)]
-enum Word {
-    First,
-    Second,
-    No,
-}
-
-// The first line: whether it is of the second edition, its counts of nodes and items.
-#[derive(Clone, Copy)]
-enum Lead {
-    Is(bool, u64, u64),
-    No,
-}
-
-// The state after a line.
-#[derive(Clone, Copy)]
-enum Stepped {
-    To(State),
-    No,
-}
-
-// The state after all lines; or the number of the line that cannot stand.
-#[derive(Clone, Copy)]
-enum Body {
-    Is(State),
-    Bad(usize),
-}
-
-// Whether a well-formed sheet is of the second edition, and where its first line ends; or the number of the line that cannot stand.
-#[derive(Clone, Copy)]
-pub enum Judged {
-    Is(bool, usize),
-    Bad(usize),
 }
 
 // ---- fields
@@ -95,53 +42,41 @@ pub fn piece_end(text: &[u8], at: usize, c: u8) -> usize
     i
 }
 
-// The number of a field in 01's spelling, or NONE.
-fn read_number(line: &[u8], from: usize, end: usize) -> u64
-    requires { (from ≤ end) × (end ≤ length line.now) }
-    ensures { result ≡ number_of (slice from end line.now) }
+// The number of a field in 01's spelling.
+fn read_number(field: &[u8]) -> Option<u64>
+    ensures { result ≡ number_of field.now }
 {
-    if end <= from {
-        return NONE;
+    if field == b"0".as_slice() {
+        return Some(0);
     }
-    if line[from] == 0x30 {
-        if end - from == 1 {
-            return 0;
-        }
-        return NONE;
+    if field.is_empty() || field[0] == b'0' {
+        return None;
     }
     let mut v: u64 = 0;
-    let mut i = from;
-    while i < end {
-        let d = cursor::wide(line[i]);
-        if d < 0x30 {
-            return NONE;
-        }
-        if d > 0x39 {
-            return NONE;
+    for b in field {
+        let d = cursor::wide(*b);
+        if d < 0x30 || 0x39 < d {
+            return None;
         }
         v = v * 10 + (d - 0x30);
         if v > 0xFFFFFFF {
-            return NONE;
+            return None;
         }
-        i = i + 1;
     }
-    v
+    Some(v)
 }
 
-// The number at a place, with another field behind it.
-pub fn number_field(line: &[u8], at: usize) -> Found
+// The number at a place, with another field behind it, and where that one begins.
+pub fn number_field(line: &[u8], at: usize) -> Option<(u64, usize)>
     requires { at ≤ length line.now }
     ensures { NumberAt line.now at result }
 {
     let end = piece_end(line, at, 0x09);
     if line.len() <= end {
-        return Found::No;
+        return None;
     }
-    let v = read_number(line, at, end);
-    if v == NONE {
-        return Found::No;
-    }
-    Found::Is(v, end + 1)
+    let v = read_number(&line[at..end])?;
+    Some((v, end + 1))
 }
 
 // Whether `count` numbers, and nothing more, stand from a place on.
@@ -150,19 +85,14 @@ fn are_numbers(line: &[u8], at: usize, count: usize) -> bool
     ensures { result ≡ fits (replicate count is_number) (fields_at line.now at) }
 {
     let mut from = at;
-    let mut left = count;
-    while 1 < left {
-        match number_field(line, from) {
-            Found::No => return false,
-            Found::Is(_, next) => from = next,
-        }
-        left = left - 1;
+    for i in 1..count {
+        let Some((_, next)) = number_field(line, from) else {
+            return false;
+        };
+        from = next;
     }
     let end = piece_end(line, from, 0x09);
-    if end < line.len() {
-        return false;
-    }
-    read_number(line, from, end) != NONE
+    end == line.len() && read_number(&line[from..end]).is_some()
 }
 
 // The letter at a place, with a tab behind it; 0 where there is none.
@@ -253,22 +183,22 @@ fn is_text(line: &[u8], from: usize, end: usize, two: bool) -> bool
     true
 }
 
-// The name at a place, with another field behind it.
-fn name_field(line: &[u8], at: usize) -> Passed
+// Behind the name at a place: where the next field begins.
+fn name_field(line: &[u8], at: usize) -> Option<usize>
     requires { at ≤ length line.now }
     ensures { NameAt line.now at result }
 {
     let end = piece_end(line, at, 0x09);
     if line.len() <= end {
-        return Passed::No;
+        return None;
     }
     if end <= at {
-        return Passed::No;
+        return None;
     }
     if !is_text(line, at, end, false) {
-        return Passed::No;
+        return None;
     }
-    Passed::To(end + 1)
+    Some(end + 1)
 }
 
 // ---- lines
@@ -278,22 +208,20 @@ fn is_tail(line: &[u8], at: usize) -> bool
     requires { at ≤ length line.now }
     ensures { result ≡ is_tail (fields_at line.now at) }
 {
-    match number_field(line, at) {
-        Found::No => false,
-        Found::Is(_, second) => match number_field(line, second) {
-            Found::No => false,
-            Found::Is(format, third) => {
-                if format % 2 != 0 {
-                    return false;
-                }
-                let end = piece_end(line, third, 0x09);
-                if end < line.len() {
-                    return false;
-                }
-                is_text(line, third, end, format == 2)
-            }
-        },
+    let Some((_, second)) = number_field(line, at) else {
+        return false;
+    };
+    let Some((format, third)) = number_field(line, second) else {
+        return false;
+    };
+    if format % 2 != 0 {
+        return false;
     }
+    let end = piece_end(line, third, 0x09);
+    if end < line.len() {
+        return false;
+    }
+    is_text(line, third, end, format == 2)
 }
 
 // The same, with the label before them: `S` and a number, or `C` and a name.
@@ -304,14 +232,14 @@ fn is_labelled(line: &[u8], at: usize) -> bool
     let b = letter(line, at);
     if b == b'S' {
         return match number_field(line, at + 2) {
-            Found::No => false,
-            Found::Is(_, next) => is_tail(line, next),
+            None => false,
+            Some((_, next)) => is_tail(line, next),
         };
     }
     if b == b'C' {
         return match name_field(line, at + 2) {
-            Passed::No => false,
-            Passed::To(next) => is_tail(line, next),
+            None => false,
+            Some(next) => is_tail(line, next),
         };
     }
     false
@@ -324,8 +252,8 @@ fn read_line(line: &[u8]) -> Line
     let b = letter(line, 0);
     if b == b'N' {
         return match number_field(line, 2) {
-            Found::No => Line::Other,
-            Found::Is(row, next) => {
+            None => Line::Other,
+            Some((row, next)) => {
                 if are_numbers(line, next, 5) {
                     return Line::Node(row);
                 }
@@ -335,8 +263,8 @@ fn read_line(line: &[u8]) -> Line
     }
     if b == b'M' {
         return match number_field(line, 2) {
-            Found::No => Line::Other,
-            Found::Is(row, next) => {
+            None => Line::Other,
+            Some((row, next)) => {
                 if is_labelled(line, next) {
                     return Line::Item(row);
                 }
@@ -350,128 +278,79 @@ fn read_line(line: &[u8]) -> Line
 // ---- the first line
 
 // Whether a field is one of the three versions.
-fn is_version(line: &[u8], from: usize, end: usize) -> bool
-    requires { (from ≤ end) × (end ≤ length line.now) }
-    ensures { result ≡ is_version (slice from end line.now) }
+fn is_version(field: &[u8]) -> bool
+    ensures { result ≡ is_version field.now }
 {
-    if end - from != 4 {
-        return false;
-    }
-    if line[from + 1] != 0x2e {
-        return false;
-    }
-    if line[from + 2] != 0x30 {
-        return false;
-    }
-    if line[from] == 0x32 {
-        return line[from + 3] == 0x30;
-    }
-    if line[from] != 0x31 {
-        return false;
-    }
-    if line[from + 3] == 0x30 {
-        return true;
-    }
-    line[from + 3] == 0x31
+    field == b"1.00".as_slice() || field == b"1.01".as_slice() || field == b"2.00".as_slice()
 }
 
-// The first word, with a field behind it.
-fn read_word(line: &[u8]) -> Word
+// The first word, with a field behind it: whether it is of the second edition, and where that field begins.
+fn read_word(line: &[u8]) -> Option<(bool, usize)>
     ensures { WordAt line.now result }
 {
-    if line.len() < 4 {
-        return Word::No;
+    if line.starts_with(b"XMF\t") {
+        return Some((false, 4));
     }
-    if line[0] != 0x58 {
-        return Word::No;
+    if line.starts_with(b"XMF2\t") {
+        return Some((true, 5));
     }
-    if line[1] != 0x4d {
-        return Word::No;
-    }
-    if line[2] != 0x46 {
-        return Word::No;
-    }
-    if line[3] == 0x09 {
-        return Word::First;
-    }
-    if line[3] != 0x32 {
-        return Word::No;
-    }
-    if line.len() < 5 {
-        return Word::No;
-    }
-    if line[4] != 0x09 {
-        return Word::No;
-    }
-    Word::Second
+    None
 }
 
 // The rest of the first line, behind the edition's word: version, length, and the counts of nodes and items.
-fn read_counts(line: &[u8], at: usize, second: bool) -> Lead
+fn read_counts(line: &[u8], at: usize, second: bool) -> Option<(bool, u64, u64)>
     requires { FieldIs line.now 0 (word second) at }
     ensures { LeadAt line.now result }
 {
     let end = piece_end(line, at, 0x09);
     if line.len() <= end {
-        return Lead::No;
+        return None;
     }
-    if !is_version(line, at, end) {
-        return Lead::No;
+    if !is_version(&line[at..end]) {
+        return None;
     }
-    match number_field(line, end + 1) {
-        Found::No => Lead::No,
-        Found::Is(_, third) => match number_field(line, third) {
-            Found::No => Lead::No,
-            Found::Is(nodes, fourth) => {
-                let last = piece_end(line, fourth, 0x09);
-                if last < line.len() {
-                    return Lead::No;
-                }
-                let items = read_number(line, fourth, last);
-                if items == NONE {
-                    return Lead::No;
-                }
-                Lead::Is(second, nodes, items)
-            }
-        },
+    let (_, third) = number_field(line, end + 1)?;
+    let (nodes, fourth) = number_field(line, third)?;
+    let last = piece_end(line, fourth, 0x09);
+    if last < line.len() {
+        return None;
     }
+    let items = read_number(&line[fourth..last])?;
+    Some((second, nodes, items))
 }
 
-// The first line.
-fn read_first(line: &[u8]) -> Lead
+// The first line: whether it is of the second edition, its counts of nodes and items.
+fn read_first(line: &[u8]) -> Option<(bool, u64, u64)>
     ensures { LeadAt line.now result }
 {
-    match read_word(line) {
-        Word::No => Lead::No,
-        Word::First => read_counts(line, 4, false),
-        Word::Second => read_counts(line, 5, true),
-    }
+    let (second, at) = read_word(line)?;
+    read_counts(line, at, second)
 }
 
 // ---- a well-formed sheet
 
 // The state after a line, if the line can stand.
-fn step(second: bool, t: State, line: Line) -> Stepped
+fn step(second: bool, t: State, line: Line) -> Option<State>
     requires { (t.nodes + 1 < 2 ^ 64) × (t.items + 1 < 2 ^ 64) }
     ensures { step_told result ≡ cond (stands second t (line_told line)) (good (after second t (line_told line))) (bad 0 0) }
 {
     match line {
-        Line::Other => Stepped::No,
+        Line::Other => None,
         Line::Node(k) => {
             if k != t.nodes {
-                return Stepped::No;
+                return None;
             }
             if second {
-                return Stepped::To(State {
+                return Some(State {
                     nodes: t.nodes + 1,
                     items: t.items,
                     least: k,
                 });
             }
             if t.items != 0 {
-                return Stepped::No;
+                return None;
             }
-            Stepped::To(State {
+            Some(State {
                 nodes: t.nodes + 1,
                 items: t.items,
                 least: t.least,
@@ -479,12 +358,12 @@ fn step(second: bool, t: State, line: Line) -> Stepped
         }
         Line::Item(k) => {
             if k < t.least {
-                return Stepped::No;
+                return None;
             }
             if t.nodes <= k {
-                return Stepped::No;
+                return None;
             }
-            Stepped::To(State {
+            Some(State {
                 nodes: t.nodes,
                 items: t.items + 1,
                 least: k,
@@ -493,8 +372,8 @@ fn step(second: bool, t: State, line: Line) -> Stepped
     }
 }
 
-// Judges the lines from a place on, the second one first.
-fn judge_body(sheet: &[u8], from: usize, second: bool) -> Body
+// Judges the lines from a place on, the second one first: the state after all lines; or the number of the line that cannot stand.
+fn judge_body(sheet: &[u8], from: usize, second: bool) -> Result<State, usize>
     requires { from ≤ length sheet.now }
     ensures { body_told result ≡ judge second start 2 (parted 0x0A (drop from sheet.now)) }
 {
@@ -508,40 +387,31 @@ fn judge_body(sheet: &[u8], from: usize, second: bool) -> Body
     while at < sheet.len() {
         let end = piece_end(sheet, at, 0x0a);
         if sheet.len() <= end {
-            return Body::Bad(number);
+            return Err(number);
         }
         let line = read_line(&sheet[at..end]);
-        match step(second, t, line) {
-            Stepped::No => return Body::Bad(number),
-            Stepped::To(u) => t = u,
-        }
+        t = step(second, t, line).ok_or(number)?;
         at = end + 1;
         number = number + 1;
     }
-    Body::Is(t)
+    Ok(t)
 }
 
-// Judges a sheet.
-pub fn judge(sheet: &[u8]) -> Judged
+// Judges a sheet: whether it is of the second edition, and where its first line ends; or the number of the line that cannot stand.
+pub fn judge(sheet: &[u8]) -> Result<(bool, usize), usize>
     ensures { JudgedAs sheet.now result }
 {
     let stop = piece_end(sheet, 0, 0x0a);
     if sheet.len() <= stop {
-        return Judged::Bad(1);
+        return Err(1);
     }
-    match read_first(&sheet[0..stop]) {
-        Lead::No => Judged::Bad(1),
-        Lead::Is(second, nodes, items) => match judge_body(sheet, stop + 1, second) {
-            Body::Bad(number) => Judged::Bad(number),
-            Body::Is(t) => {
-                if t.nodes != nodes {
-                    return Judged::Bad(1);
-                }
-                if items < t.items {
-                    return Judged::Bad(1);
-                }
-                Judged::Is(second, stop)
-            }
-        },
+    let (second, nodes, items) = read_first(&sheet[0..stop]).ok_or(1usize)?;
+    let t = judge_body(sheet, stop + 1, second)?;
+    if t.nodes != nodes {
+        return Err(1);
     }
+    if items < t.items {
+        return Err(1);
+    }
+    Ok((second, stop))
 }

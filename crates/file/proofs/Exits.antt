@@ -4,14 +4,17 @@ use mathlib.Core.Path.{◌≡◌, sym, ◌∙◌}
 use mathlib.Core.List.{List}
 use Prim.Native.Nat.{ℕ}
 use lib.ListN.{replicate}
-use Rattle.cursor.specs.declared.FilePlace.{FilePlace}
+use Rattle.std.proofs.Common.{Err}
+use Rattle.std.proofs.Common as std
+use Rattle.refusals.specs.Reasons.{number_of}
+use Rattle.refusals.specs.declared.Refusal.{Refusal}
+use Rattle.room.specs.Told.{told}
 use Rattle.cursor.specs.declared.Node.{Node}
 use Rattle.cursor.specs.declared.Item.{Item}
 use Rattle.header.specs.Header.{Header}
 use Rattle.file.specs.Reading.{Reading, rows, read_of, node_table, item_table}
 use Rattle.file.specs.Asking.{Result, good, bad, ask, kept_nodes, kept_items}
-use Rattle.file.specs.declared.Read.{Read}
-use Rattle.file.specs.declared.Read.TheVariants as read
+use Rattle.file.specs.declared.Summary.{Summary}
 use Rattle.file.proofs.Rows.{ask-refused, refused-nodes, refused-items, ask-is, good-nodes, good-items, bad-nodes, bad-items}
 
 module _ (nsize isize : ℕ) (o : Reading) {A : Type 0} (question : Header → List Node → List Item → Result A) where
@@ -20,8 +23,8 @@ module _ (nsize isize : ℕ) (o : Reading) {A : Type 0} (question : Header → L
   Says a t u = (a ≡ ask o question) × (t ≡ kept_nodes nsize o (ask o question)) × (u ≡ kept_items isize o (ask o question))
 
   -- the reader refused the file: the tables are as it left them
-  pub says-unread : {r : Read} → r ≡ read_of o → {n : ℕ} {p : FilePlace} → r ≡ read.Refused n p → {t u : List ℕ} → t ≡ node_table nsize o → u ≡
-      item_table isize o → Says (bad n p.0) t u
+  pub says-unread : {r : std.Result Summary Refusal} → told r ≡ read_of o → {x : Refusal} → r ≡ Err x → {t u : List ℕ} → t ≡ node_table nsize o → u ≡
+      item_table isize o → Says (bad (number_of x.0) x.1) t u
   says-unread e k a b = (sym (ask-refused o e k question), refused-nodes o question e k nsize a, refused-items o question e k isize b)
 
   module _ {h : Header} {ns : List Node} {is : List Item} (reads : o ≡ rows h ns is) {t u : List ℕ} where

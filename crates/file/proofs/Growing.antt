@@ -14,7 +14,11 @@ use lib.Seq.{get_or-append_seam}
 use Rattle.machine.specs.Machine.{Out, ok, refused, run, trace, exec, puts, times}
 use Rattle.cursor.specs.Rows.{P, Events}
 use Rattle.cursor.specs.declared.Cursor.{Cursor}
-use Rattle.cursor.specs.declared.FilePlace.{FilePlace}
+use Rattle.std.proofs.Common.{Ok, Err}
+use Rattle.std.proofs.Common as std
+use Rattle.refusals.specs.Reasons.{number_of}
+use Rattle.refusals.specs.declared.Refusal.{Refusal}
+use Rattle.refusals.specs.declared.Reason.TheVariants as reason
 use Rattle.cursor.specs.declared.Node.{Node}
 use Rattle.machine.proofs.Laws.{puts-on, rows_on}
 use Rattle.cursor.proofs.Quiet.{still, exec-puts}
@@ -24,8 +28,6 @@ use Rattle.metadata.specs.Tables.{State, state, put}
 use Rattle.metadata.specs.Told.{told, Fits, Gives}
 use Rattle.metadata.specs.declared.Limits.{Limits}
 use Rattle.metadata.specs.declared.Made.{Made}
-use Rattle.metadata.specs.declared.Walked.{Walked}
-use Rattle.metadata.specs.declared.Walked.TheVariants.{Done, Refused}
 use Rattle.file.specs.Reading.{Result, good, bad, made_by, logged, detached_at, follow_row, follow, context}
 use Rattle.targets.specs.Targets.{starts_at, is_missing, offset_at, outside, part_end, first_taken}
 use Rattle.node.specs.Node.{outside_tree}
@@ -72,11 +74,11 @@ module _ {lim : Limits} {size : ℕ} {σ : State} {log : Events} {tree : ℕ} {t
       ap₂ nodes_in c e ∙ nodes-back (nodes_of log) _
 
   -- nothing new
-  pub leaves-same : (c : Cursor) → Leaves lim σ (Done m c) t u (good log)
+  pub leaves-same : (c : Cursor) → Leaves lim σ (Ok (m, c)) t u (good log)
   leaves-same c = record { answer = ap good (sym s.fills); fits = s.fits }
 
   -- one more node
-  pub leaves-more : {r : Walked} {t' u' : List ℕ} (f : List ℕ) (at : ℕ) (n : P Made) → Gives lim r t' u' (exec put n f at (state t u m)) →
+  pub leaves-more : {r : std.Result (Made × Cursor) Refusal} {t' u' : List ℕ} (f : List ℕ) (at : ℕ) (n : P Made) → Gives lim r t' u' (exec put n f at (state t u m)) →
       Leaves lim σ r t' u' (logged log (run n f at) (trace n f at))
   unfolding logged
   leaves-more {r} {t'} {u'} f at n g =
@@ -86,11 +88,11 @@ module _ {lim : Limits} {size : ℕ} {σ : State} {log : Events} {tree : ℕ} {t
       same : {a b : Made × State} {p q : ℕ} → ok a p ≡ ok b q → a ≡ b
       same z = cc
 
-      by : (r : Walked) (o : Out Made) (es : Events) → told r t' u' ≡ still o (puts put (log ++ es) σ) → Fits lim r → Leaves lim σ r t' u' (logged log o es)
-      by (Done a c) (ok b p) es z fits = record { answer = ap (λ (y : Made × State). good y.1) (same z); fits = fits }
-      by (Done a c) (refused n p) es z fits = let y : ◌≡◌ {A = ℕ} 0 1 = cc in absurd (omega arith)
-      by (Refused n p) (ok b q) es z fits = let y : ◌≡◌ {A = ℕ} 0 1 = cc in absurd (omega arith)
-      by (Refused n p) (refused k q) es z fits = let x : n ≡ k = cc in let y : p.0 ≡ q = cc in record { answer = ap₂ (λ (a : ℕ) (b : ℕ). bad a b) x y; fits = tt }
+      by : (r : std.Result (Made × Cursor) Refusal) (o : Out Made) (es : Events) → told r t' u' ≡ still o (puts put (log ++ es) σ) → Fits lim r → Leaves lim σ r t' u' (logged log o es)
+      by (Ok (a, c)) (ok b p) es z fits = record { answer = ap (λ (y : Made × State). good y.1) (same z); fits = fits }
+      by (Ok (a, c)) (refused n p) es z fits = let y : ◌≡◌ {A = ℕ} 0 1 = cc in absurd (omega arith)
+      by (Err x) (ok b q) es z fits = let y : ◌≡◌ {A = ℕ} 0 1 = cc in absurd (omega arith)
+      by (Err x) (refused k q) es z fits = let a : number_of x.0 ≡ k = cc in let b : x.1 ≡ q = cc in record { answer = ap₂ (λ (a : ℕ) (b : ℕ). bad a b) a b; fits = tt }
 
 -- ---- what the calls that look at the table ask for
 
@@ -157,12 +159,12 @@ module _ (lim : Limits) (f : List ℕ) (h : Header) {σ : State} {log : Events} 
   row_words : row ≡ r
   row_words = read ∙ sym (node_at_lem t m.nodes i l) ∙ ap (λ v. node_at v i) (rows-stand s room)
 
-  reach_same : is_missing (nodes_of log) r ≡ false → (c : Cursor) → Leaves lim σ (Done m c) t u (follow_row lim f h log r)
+  reach_same : is_missing (nodes_of log) r ≡ false → (c : Cursor) → Leaves lim σ (Ok (m, c)) t u (follow_row lim f h log r)
   unfolding follow_row
   reach_same e c = rw e (leaves-same s c)
 
   -- no reference 3
-  pub reach_other : ((row.reference ≡ 3) → ⊥) → (c : Cursor) → Leaves lim σ (Done m c) t u (follow_row lim f h log r)
+  pub reach_other : ((row.reference ≡ 3) → ⊥) → (c : Cursor) → Leaves lim σ (Ok (m, c)) t u (follow_row lim f h log r)
   unfolding is_missing
   reach_other n c = let q : (r.reference ≡ 3) → ⊥ = λ z. n (ap (λ (x : Node). x.reference) row_words ∙ z) in reach_same
       (ap (λ b. b && not (starts_at (nodes_of log) r.target)) (ne_eqb _ _ q)) c
@@ -171,7 +173,7 @@ module _ (lim : Limits) (f : List ℕ) (h : Header) {σ : State} {log : Events} 
   to_is = ap (λ (x : Node). x.target) row_words
 
   -- a row starts there
-  pub reach_known : {k : ℕ} → k ≡ row_starting (nodes_in m.nodes t) row.target → k < m.nodes → (c : Cursor) → Leaves lim σ (Done m c) t u (follow_row lim f h log r)
+  pub reach_known : {k : ℕ} → k ≡ row_starting (nodes_in m.nodes t) row.target → k < m.nodes → (c : Cursor) → Leaves lim σ (Ok (m, c)) t u (follow_row lim f h log r)
   unfolding is_missing
   reach_known {k} e j c =
       let y : k ≡ row_starting (nodes_of log) r.target = e ∙ ap₂ row_starting (rows-stand s room) to_is in
@@ -192,18 +194,18 @@ module _ (lim : Limits) (f : List ℕ) (h : Header) {σ : State} {log : Events} 
         rw (eq-eqb _ _ q, starts_not (nodes_of log) r.target (omega arith)) refl
 
     -- no node may start there
-    pub reach_nowhere : false ≡ outside h (length f) row.target → {p : FilePlace} → p.0 ≡ offset_at f (node_at (nodes_in m.nodes t) i) →
-        Leaves lim σ (Refused 16 p) t u (follow_row lim f h log r)
+    pub reach_nowhere : false ≡ outside h (length f) row.target → {p : ℕ} → p ≡ offset_at f (node_at (nodes_in m.nodes t) i) →
+        Leaves lim σ (Err (record { 0 = reason.BadTarget; 1 = p })) t u (follow_row lim f h log r)
     unfolding follow_row
     reach_nowhere b {p} q =
         let o : outside h (length f) r.target ≡ false = sym (b ∙ ap (outside h (length f)) to_is) in
-        let z : p.0 ≡ offset_at f r = q ∙ ap (λ v. offset_at f (node_at v i)) (rows-stand s room) in
+        let z : p ≡ offset_at f r = q ∙ ap (λ v. offset_at f (node_at v i)) (rows-stand s room) in
         rw (is_lost, o) (record { answer = ap (bad 16) z; fits = tt })
 
     -- a node is read there
     pub reach_node : true ≡ outside h (length f) row.target → {offset end taken : ℕ} → offset ≡ offset_at f
         (node_at (nodes_in m.nodes t) i) → end ≡ part_end h (length f) row.target → taken ≡ first_taken (nodes_in m.nodes t) row.target end
-        → {w : Walked} {t' u' : List ℕ} → Gives lim w t' u'
+        → {w : std.Result (Made × Cursor) Refusal} {t' u' : List ℕ} → Gives lim w t' u'
         (exec put (times 1 (node 17 (context lim h (length f)) m.nodes (outside_tree end taken offset)) m) f row.target (state t u m)) →
         Leaves lim σ w t' u' (follow_row lim f h log r)
     unfolding follow_row detached_at detached
@@ -342,17 +344,17 @@ module _ (lim : Limits) (f : List ℕ) (h : Header) (tree : ℕ) (t₀ u₀ : Li
         let b : ltb i (length (nodes_of x.log)) ≡ true = lt-ltb i (length (nodes_of x.log)) (omega arith) in
         x.same ∙ ap (λ v. follow v lim f h i (good x.log)) k ∙ rw b refl
 
-    module _ (l : i < m.nodes) {r : Walked} {t' u' : List ℕ}
+    module _ (l : i < m.nodes) {r : std.Result (Made × Cursor) Refusal} {t' u' : List ℕ}
         (g : (σ : State) (log : Events) → Stands lim (length f) σ log tree t u m → Leaves lim σ r t' u'
         (follow_row lim f h log (node_at (nodes_of log) i))) where
-      pub follows_no : {n : ℕ} {p : FilePlace} → r ≡ Refused n p → (σ : State) (log₀ : Events) → Stands lim (length f) σ log₀ tree t₀ u₀ m₀ →
-          Leaves lim σ (Refused n p) t' u' (follow lim.nodes lim f h 0 (good log₀))
-      follows_no {n} {p} e σ log₀ s =
-          let x = w σ log₀ s in
-          rw (turn σ log₀ s l) (by (follow_row lim f h x.log (node_at (nodes_of x.log) i)) (lim.nodes - (i + 1))
-          (ap (λ v. said v t' u') (sym e) ∙ (g σ x.log x.stands).answer))
+      pub follows_no : {x : Refusal} → r ≡ Err x → (σ : State) (log₀ : Events) → Stands lim (length f) σ log₀ tree t₀ u₀ m₀ →
+          Leaves lim σ (Err x) t' u' (follow lim.nodes lim f h 0 (good log₀))
+      follows_no {x} e σ log₀ s =
+          let y = w σ log₀ s in
+          rw (turn σ log₀ s l) (by (follow_row lim f h y.log (node_at (nodes_of y.log) i)) (lim.nodes - (i + 1))
+          (ap (λ v. said v t' u') (sym e) ∙ (g σ y.log y.stands).answer))
         where
-          by : (o : Result Events) (k : ℕ) → bad n p.0 ≡ left σ o → Leaves lim σ (Refused n p) t' u' (follow k lim f h (i + 1) o)
+          by : (o : Result Events) (k : ℕ) → bad (number_of x.0) x.1 ≡ left σ o → Leaves lim σ (Err x) t' u' (follow k lim f h (i + 1) o)
           by (good log) k z = let y : ◌≡◌ {A = ℕ} 0 1 = cc in absurd (omega arith)
           by (bad a b) k z = record { answer = z ∙ ap (left σ) (sym (bad-is lim f h (i + 1) k a b)); fits = tt }
 
@@ -363,7 +365,7 @@ module _ (lim : Limits) (f : List ℕ) (h : Header) (tree : ℕ) (t₀ u₀ : Li
         pub came : Reached lim f h (w σ log₀ s).log (node_at (nodes_of (w σ log₀ s).log) i) log
         pub same : follow lim.nodes lim f h 0 (good log₀) ≡ follow (lim.nodes - (i + 1)) lim f h (i + 1) (good log)
 
-      module _ (z : h.extent.start ≤ length f) {n : Made} {c : Cursor} (e : r ≡ Done n c) (j : length t' ≡ length t) (k : length u' ≡ length u) where
+      module _ (z : h.extent.start ≤ length f) {n : Made} {c : Cursor} (e : r ≡ Ok (n, c)) (j : length t' ≡ length t) (k : length u' ≡ length u) where
         pub follows_next : (σ : State) (log₀ : Events) (s : Stands lim (length f) σ log₀ tree t₀ u₀ m₀) → Next n σ log₀ s
         follows_next σ log₀ s =
             let x = w σ log₀ s in let a = g σ x.log x.stands in
@@ -393,13 +395,13 @@ module _ (lim : Limits) (f : List ℕ) (h : Header) (tree : ℕ) (t₀ u₀ : Li
             }
 
     pub follows_done : m.nodes ≤ i → (c : Cursor) → (σ : State) (log₀ : Events) → Stands lim (length f) σ log₀ tree t₀ u₀ m₀ → Leaves lim σ
-        (Done m c) t u (follow lim.nodes lim f h 0 (good log₀))
+        (Ok (m, c)) t u (follow lim.nodes lim f h 0 (good log₀))
     unfolding follow
     follows_done l c σ log₀ s =
         let x = w σ log₀ s in let n = node-count x.stands in
         rw x.same (by (lim.nodes - i) (le-ltb i (length (nodes_of x.log)) (omega arith)) (leaves-same x.stands c))
       where
-        by : (k : ℕ) → ltb i (length (nodes_of (w σ log₀ s).log)) ≡ false → Leaves lim σ (Done m c) t u (good (w σ log₀ s).log) → Leaves lim σ
-            (Done m c) t u (follow k lim f h i (good (w σ log₀ s).log))
+        by : (k : ℕ) → ltb i (length (nodes_of (w σ log₀ s).log)) ≡ false → Leaves lim σ (Ok (m, c)) t u (good (w σ log₀ s).log) → Leaves lim σ
+            (Ok (m, c)) t u (follow k lim f h i (good (w σ log₀ s).log))
         by zero b v = v
         by (suc k) b v = rw b v

@@ -9,7 +9,7 @@ use Rattle.machine.specs.Machine.{ok, seen, passed, run, trace, rows_of}
 use Rattle.cursor.specs.Rows.{node_row, item_row, plain, P, Events}
 use Rattle.cursor.specs.declared.Node.{Node}
 use Rattle.cursor.specs.declared.Item.{Item}
-use Rattle.cursor.proofs.Order.{Orders, Ordered, Made, ordered_on, in_order, after, weaken, ends, stops, at_place, checks, places, passes_node, counts}
+use Rattle.cursor.proofs.Order.{Orders, Ordered, ordered_on, in_order, after, weaken, ends, stops, at_place, checks, places, passes_node, counts}
 use Rattle.header.specs.Header.{Header}
 use Rattle.metadata.specs.Metadata.{Context}
 use Rattle.metadata.specs.declared.Limits.{Limits}

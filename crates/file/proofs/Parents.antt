@@ -34,7 +34,7 @@ use Rattle.file.specs.Reading.{good, made_by, detached_at, context, rows, read_f
 use Rattle.tree.proofs.Starts.{nodes-joined, NoNode, none, front-none, counted, detached-row, tree-attached}
 use Rattle.file.proofs.Order.{node-orders}
 use Rattle.file.proofs.Shown.{part-is, header_of_lem}
-use Rattle.file.proofs.Follow.{tree_of, target, Reached, known, added, followed, read_back}
+use Rattle.file.proofs.Follow.{tree_of, Reached, known, added, followed, read_back}
 
 -- ---- rows below others
 

@@ -6,22 +6,24 @@ use mathlib.Core.List.{List, [], ◌∷◌}
 use Prim.Native.Nat.{ℕ, zero, suc, ◌+◌, ◌*◌, ◌-◌, ◌^◌, ◌≤◌, ◌<◌}
 use native.Mathlib.Omega.{arith}
 use lib.ListN.{length, replicate, length-append}
-use Rattle.machine.specs.Machine.{refused, seen, passed, rows_of}
+use Rattle.machine.specs.Machine.{seen, passed, rows_of}
 use Rattle.cursor.specs.Rows.{node_row, item_row, plain, Events}
-use Rattle.cursor.specs.declared.FilePlace.{FilePlace}
 use Rattle.cursor.specs.declared.Node.{Node}
 use Rattle.cursor.specs.declared.Item.{Item}
 use Rattle.machine.proofs.Wp.{All}
-use Rattle.header.specs.Header.{Header, header}
+use Rattle.header.specs.Header.{Header}
 use Rattle.rows.specs.Rows.{node_width, item_width, nodes_of, items_of, all_nodes, all_items, nodes_in, items_in, node_at, item_at, NodeIn, ItemIn, ItemsIn}
 use Rattle.metadata.specs.declared.Limits.{Limits}
 use Rattle.metadata.proofs.Ends.{Nothing, Inside}
 use Rattle.file.specs.Reading.{Reading, rows, refusal, read_file, read_of, summary, node_table, item_table}
+use Rattle.std.proofs.Common.{Ok, Err}
+use Rattle.std.proofs.Common as std
+use Rattle.refusals.specs.Reasons.{number_of}
+use Rattle.refusals.specs.declared.Refusal.{Refusal}
 use Rattle.room.specs.Room.{padded}
+use Rattle.room.specs.Told.{told}
 use Rattle.file.specs.Asking.{Result, good, bad, ask, kept_nodes, kept_items}
 use Rattle.file.specs.declared.Summary.{Summary}
-use Rattle.file.specs.declared.Read.{Read}
-use Rattle.file.specs.declared.Read.TheVariants as read
 use Rattle.file.proofs.Follow.{read_back}
 use Rattle.file.proofs.Shown.{header_of_lem, log-inside}
 use Rattle.rows.proofs.Rows.{nodes-back, items_back, nodes-length, items-length}
@@ -96,7 +98,7 @@ unfolding padded
 padded-length size ws = rw length-append (omega arith)
 
 module _ (f : List ℕ) (lim : Limits) (nsize isize : ℕ) {s : Summary} where
-  stand : (o : Reading) → read_file lim f ≡ o → read.Is s ≡ read_of o → {t u : List ℕ} → t ≡ node_table nsize o → u ≡ item_table isize o → Standing f o s t u
+  stand : (o : Reading) → read_file lim f ≡ o → good s ≡ read_of o → {t u : List ℕ} → t ≡ node_table nsize o → u ≡ item_table isize o → Standing f o s t u
   unfolding read_of node_table item_table
   stand (rows h ns is) k e {t} {u} a b =
       let z : s ≡ summary h ns is = cc in
@@ -117,32 +119,36 @@ module _ (f : List ℕ) (lim : Limits) (nsize isize : ℕ) {s : Summary} where
       }
   stand (refusal n p) k e a b = let z : ◌≡◌ {A = ℕ} 0 1 = cc in absurd (omega arith)
 
-  pub standing : {r : Read} → r ≡ read_of (read_file lim f) → {t u : List ℕ} → t ≡ node_table nsize (read_file lim f) → u ≡ item_table isize (read_file lim f) → r ≡ read.Is s
+  pub standing : {r : std.Result Summary Refusal} → told r ≡ read_of (read_file lim f) → {t u : List ℕ} → t ≡ node_table nsize (read_file lim f) → u ≡ item_table isize (read_file lim f) → r ≡ Ok s
       → Standing f (read_file lim f) s t u
-  standing e a b h = stand (read_file lim f) refl (sym h ∙ e) a b
+  standing e a b h = stand (read_file lim f) refl (ap told (sym h) ∙ e) a b
 
 -- ---- a question that the reader refuses
 
-refusal_is : (o : Reading) {n : ℕ} {p : FilePlace} → read.Refused n p ≡ read_of o → o ≡ refusal n p.0
+refusal_is : (o : Reading) {n p : ℕ} → bad n p ≡ read_of o → o ≡ refusal n p
 unfolding read_of
 refusal_is (rows h ns is) e = let z : ◌≡◌ {A = ℕ} 0 1 = cc in absurd (omega arith)
-refusal_is (refusal m q) {n} {p} e = let a : n ≡ m = cc in let b : p ≡ record { 0 = q } = cc in rw (a, b)
+refusal_is (refusal m q) {n} {p} e = let a : n ≡ m = cc in let b : p ≡ q = cc in rw (a, b)
+
+-- the file reads as that refusal
+pub reads-refused : (o : Reading) {r : std.Result Summary Refusal} → told r ≡ read_of o → {x : Refusal} → r ≡ Err x → o ≡ refusal (number_of x.0) x.1
+reads-refused o e k = refusal_is o (ap told (sym k) ∙ e)
 
 -- the answer is the refusal, and the tables are zeros, as the reader left them
-pub ask-refused : (o : Reading) {r : Read} → r ≡ read_of o → {n : ℕ} {p : FilePlace} → r ≡ read.Refused n p → {A : Type 0} (question : Header → List Node → List Item → Result A)
-    → ask o question ≡ bad n p.0
+pub ask-refused : (o : Reading) {r : std.Result Summary Refusal} → told r ≡ read_of o → {x : Refusal} → r ≡ Err x → {A : Type 0}
+    (question : Header → List Node → List Item → Result A) → ask o question ≡ bad (number_of x.0) x.1
 unfolding ask
-ask-refused o e k question = rw (refusal_is o (sym k ∙ e))
+ask-refused o e k question = rw (reads-refused o e k)
 
-module _ (o : Reading) {A : Type 0} (question : Header → List Node → List Item → Result A) {r : Read} (e : r ≡ read_of o) {n : ℕ}
-    {p : FilePlace} (k : r ≡ read.Refused n p) (size : ℕ) {t : List ℕ} where
+module _ (o : Reading) {A : Type 0} (question : Header → List Node → List Item → Result A) {r : std.Result Summary Refusal} (e : told r ≡ read_of o) {x : Refusal}
+    (k : r ≡ Err x) (size : ℕ) {t : List ℕ} where
   pub refused-nodes : t ≡ node_table size o → t ≡ kept_nodes size o (ask o question)
   unfolding node_table kept_nodes
-  refused-nodes a = a ∙ rw (ask-refused o e k question, refusal_is o (sym k ∙ e))
+  refused-nodes a = a ∙ rw (ask-refused o e k question, reads-refused o e k)
 
   pub refused-items : t ≡ item_table size o → t ≡ kept_items size o (ask o question)
   unfolding item_table kept_items
-  refused-items a = a ∙ rw (ask-refused o e k question, refusal_is o (sym k ∙ e))
+  refused-items a = a ∙ rw (ask-refused o e k question, reads-refused o e k)
 
 -- ---- a question over an accepted file, whose answer is known
 

@@ -15,14 +15,14 @@ use Rattle.cursor.specs.declared.Node.{Node}
 use Rattle.cursor.specs.declared.Item.{Item}
 use Rattle.cursor.proofs.Leaves.{any_free}
 use Rattle.machine.proofs.Wp.{All, given, all-on, at_end}
-use Rattle.header.specs.Header.{Header, header}
+use Rattle.header.specs.Header.{Header}
 use Rattle.header.proofs.Ends.{header-on}
 use Rattle.metadata.specs.declared.Limits.{Limits}
 use Rattle.metadata.proofs.Ends.{OfNames, Nothing, Given, inside-free, Inside}
 use Rattle.file.specs.Reading.{good, detached_at, context}
 use Rattle.targets.specs.Targets.{outside, part_end}
 use Rattle.tree.proofs.Ends.{tree-shows, detached-shows}
-use Rattle.file.proofs.Follow.{tree_of, target, Reached, known, added, followed, ReadAs}
+use Rattle.file.proofs.Follow.{tree_of, Reached, known, added, followed, ReadAs}
 
 -- ---- a place outside header and tree, and its part
 

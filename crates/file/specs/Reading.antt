@@ -16,10 +16,7 @@ use Rattle.metadata.specs.declared.Made.{Made}
 use Rattle.tree.specs.Tree.{tree, detached}
 use Rattle.targets.specs.Targets.{offset_at, is_missing, outside, part_end, first_taken}
 use Rattle.file.specs.declared.Summary.{Summary}
-use Rattle.file.specs.declared.Read.{Read}
-use Rattle.file.specs.declared.Read.TheVariants as read
-use Rattle.file.specs.declared.Answer.{Answer}
-use Rattle.file.specs.declared.Answer.TheVariants as answer
+use Rattle.file.specs.declared.Tree.{Tree}
 
 -- ---- what a file reads as
 
@@ -91,14 +88,14 @@ summary h ns is = record {
   items = length is;
 }
 
-unfoldable pub read_of : Reading → Read
-read_of (rows h ns is) = read.Is (summary h ns is)
-read_of (refusal n p) = read.Refused n (record { 0 = p })
+unfoldable pub read_of : Reading → Result Summary
+read_of (rows h ns is) = good (summary h ns is)
+read_of (refusal n p) = bad n p
 
 -- the first question: version, number of node rows, number of item rows; or the refusal
-unfoldable pub answer_of : Reading → Answer
-answer_of (rows h ns is) = answer.Tree h.version (length ns) (length is)
-answer_of (refusal n p) = answer.Refused n p
+unfoldable pub answer_of : Reading → Result Tree
+answer_of (rows h ns is) = good (record { version = h.version; nodes = length ns; items = length is })
+answer_of (refusal n p) = bad n p
 
 -- the rows as words, and then zeros to the table's end; on a refusal zeros
 unfoldable pub node_table : ℕ → Reading → List ℕ

@@ -29,10 +29,10 @@ use Rattle.metadata.specs.declared.Limits.{Limits}
 use Rattle.metadata.specs.declared.Made.{Made}
 use Rattle.metadata.proofs.Ends.{Nothing, Given, Inside}
 use Rattle.node.specs.Node.{header_length, head, front, outside_tree}
-use Rattle.tree.specs.Tree.{tree, node, detached}
+use Rattle.tree.specs.Tree.{node, detached}
 use Rattle.rows.specs.Rows.{node_of, nodes_of, items_of, node_at, item_at}
 use Rattle.file.specs.Reading.{Result, good, bad, rows, made_by, logged, detached_at, follow_row, follow, log_from, reading, context, read_tree, read_file}
-use Rattle.targets.specs.Targets.{offset_at, outside, part_end, is_taken, first_taken}
+use Rattle.targets.specs.Targets.{offset_at, part_end, is_taken, first_taken}
 use Rattle.targets.proofs.Taken.{or_yes, first-before}
 use Rattle.file_laws.specs.Private.{may_differ, HiddenData, InlineData, InDetached, InParts, Private, DifferInPrivate}
 use Rattle.tree.proofs.Ends.{tree-ends, detached-ends}

@@ -15,7 +15,7 @@ use Rattle.cursor.specs.declared.Item.{Item}
 use Rattle.machine.proofs.Laws.{rows_on}
 use Rattle.cursor.proofs.Limited as limited
 use Rattle.cursor.proofs.Limited.{Kind, item, Rows, count, makes-then, makes-row, Limited, same, limited_ends, limited_run, fitting-run, after, ends, at_place, places, checks, row-checks, passes, counts}
-use Rattle.header.specs.Header.{Header, header}
+use Rattle.header.specs.Header.{Header}
 use Rattle.metadata.specs.Metadata.{Context}
 use Rattle.metadata.specs.declared.Limits.{Limits}
 use Rattle.metadata.specs.declared.Made.{Made}
@@ -26,7 +26,6 @@ use Rattle.node.proofs.Limited.{front-limited}
 use Rattle.tree.specs.Tree.{folder, node, tree, detached}
 use Rattle.rows.specs.Rows.{node_of, item_of, nodes_of, items_of, node_at}
 use Rattle.file.specs.Reading.{Result, good, bad, rows, made_by, logged, detached_at, follow_row, follow, context, reading, read_tree, read_file}
-use Rattle.targets.specs.Targets.{outside}
 use Rattle.file.proofs.Follow.{tree_of, target, stepped, Reached, known, added, reached, followed, ReadAs, read_back, stops}
 
 -- ---- a node

@@ -17,7 +17,7 @@ use Rattle.cursor.specs.declared.Item.{Item}
 use Rattle.machine.proofs.Wp.{Wp, Rule, All, Free, all-on, given, asked, at_end, wp_after, wp_then, wp_weaken, wp_ret, wp_refuse, wp_here, wp_if, wp_check, wp_place, wp_skip}
 use Rattle.cursor.proofs.Leaves.{Any, any_free, number-on, block_on, manufacturer-on, guid-on}
 use Rattle.header.specs.Types.{Declared, Known, known, unknown, format_of}
-use Rattle.header.specs.Header.{Header, header, opening, entry, types_table, extent}
+use Rattle.header.specs.Header.{Header, header, opening, entry, types_table}
 use Rattle.header.proofs.Ends.{four-on, edition-on, length-on, extent-on}
 use Rattle.metadata.specs.Tables.{plus_node}
 use Rattle.metadata.specs.Metadata.{Context, field, contents, item_frame, kind_of, field_of, name_length_of, universal, declared_format, version, rows_for, item, next_item, meta_items, metadata}

@@ -11,11 +11,13 @@ use lib.ListN.{length, replicate}
 use borrow.Author.Tests.{lt-ltb, le-ltb}
 use Rattle.cursor.specs.declared.Node.{Node}
 use Rattle.cursor.specs.declared.Item.{Item}
-use Rattle.cursor.specs.declared.FilePlace.{FilePlace}
+use Rattle.std.proofs.Common.{Ok, Err}
+use Rattle.std.proofs.Common as std
+use Rattle.refusals.specs.Reasons.{number_of}
+use Rattle.refusals.specs.declared.Refusal.{Refusal}
 use Rattle.rows.specs.Rows.{node_width, node_from, nodes_in, items_in, node_at}
 use Rattle.file.specs.Reading.{Reading, read_of, node_table, item_table}
-use Rattle.file.specs.declared.Read.{Read}
-use Rattle.file.specs.declared.Read.TheVariants as read
+use Rattle.room.specs.Told as room
 use Rattle.file.specs.Asking.{Result, good, bad}
 use Rattle.file.specs.Own.{Numbered, numbered, first_row, part, Tables}
 use Rattle.file.specs.declared.Summary.{Summary}
@@ -25,8 +27,6 @@ use Rattle.file.proofs.Exits as exits
 use Rattle.file.proofs.Own.{first_next, rows_in_lem, end-in, end-next, own-are}
 use Rattle.find.specs.Find.{Wanted, among, look, rows_up, path, or_else, first_answer, nearest, find, find_own}
 use Rattle.find.specs.Told.{told, found_by, question}
-use Rattle.find.specs.declared.Found.{Found}
-use Rattle.find.specs.declared.Found.TheVariants as found
 
 -- ---- the path
 
@@ -92,8 +92,8 @@ module _ (ws : List ℕ) (n i : ℕ) (some : 0 < i) (l : i ≤ n) {r : Node} (e 
       a ∙ ap (first_row (nodes_in n ws)) q ∙ first_next (nodes_in n ws) (i - 1) (omega arith) ∙ ap
       (λ (x : Node). first_row (nodes_in n ws) (i - 1) + x.rows) (node_at_lem ws n (i - 1) (omega arith) ∙ sym e)
 
-  pub back-rows : r.rows ≤ end
-  back-rows = omega (arith, rows_are)
+  pub back_rows : r.rows ≤ end
+  back_rows = omega (arith, rows_are)
 
   pub back_one : EndsAt ws n (i - 1) (end - r.rows)
   back_one = omega (arith, rows_are)
@@ -101,24 +101,24 @@ module _ (ws : List ℕ) (n i : ℕ) (some : 0 < i) (l : i ≤ n) {r : Node} (e 
 -- ---- the look at node k, and the climb to its parent
 
 module _ {f : List ℕ} {ws vs : List ℕ} {n m k end : ℕ} (t : Tables f ws vs n m) (l : k < n) (a : EndsAt ws n (k + 1) end) {r : Node} (e : r ≡ node_from ws (k * node_width)) where
-  pub own-rows : r.rows ≤ end
-  own-rows = rows_in_lem t (k + 1) k refl l e a
+  pub own_rows : r.rows ≤ end
+  own_rows = rows_in_lem t (k + 1) k refl l e a
 
-  pub own-end : end ≤ m
-  own-end = end-in t (k + 1) k refl l e a
+  pub own_end : end ≤ m
+  own_end = end-in t (k + 1) k refl l e a
 
   pub own_first : EndsAt ws n k (end - r.rows)
   own_first = end-next t (k + 1) k refl l e a
 
-  module _ (w : Wanted) (o : Found) (g : told o ≡ among f w (numbered (end - r.rows) (part (items_in m vs) (end - r.rows) end))) where
+  module _ (w : Wanted) (o : std.Result (ℕ × Item) Refusal) (g : told o ≡ among f w (numbered (end - r.rows) (part (items_in m vs) (end - r.rows) end))) where
     pub looks : told o ≡ look f w (items_in m vs) k
     unfolding look
     looks = g ∙ ap (among f w) (sym (own-are t (k + 1) k refl l e a))
 
-    pub climb_here : {x : ℕ} {item : Item} → o ≡ found.Item x item → good (record { row = x; item = item }) ≡ nearest f w (nodes_in n ws) (items_in m vs) k
+    pub climb_here : {x : ℕ × Item} → o ≡ Ok x → told (Ok x) ≡ nearest f w (nodes_in n ws) (items_in m vs) k
     climb_here y = sym (nearest-here f w (nodes_in n ws) (items_in m vs) k (sym looks ∙ ap told y))
 
-    module _ {x p : ℕ} (y : o ≡ found.Refused x p) where
+    module _ {x : Refusal} (y : o ≡ Err x) where
       parent_is : (node_at (nodes_in n ws) k).parent ≡ r.parent
       parent_is = ap (λ (v : Node). v.parent) (node_at_lem ws n k l ∙ sym e)
 
@@ -140,9 +140,8 @@ module _ (f : List ℕ) (w : Wanted) (ns : List Node) (is : List Item) (k : ℕ)
 
 -- ---- the question over a file that the reader refuses
 
-pub says-refused : (climbs : Bool) (f : List ℕ) (w : Wanted) (row nsize isize : ℕ) (o : Reading) {r : Read} → r ≡ read_of o → {n : ℕ}
-    {p : FilePlace} → r ≡ read.Refused n p → {t u : List ℕ} → t ≡ node_table nsize o → u ≡ item_table isize o
-    → exits.Says nsize isize o (question climbs w row f) (bad n p.0) t u
+pub says-refused : (climbs : Bool) (f : List ℕ) (w : Wanted) (row nsize isize : ℕ) (o : Reading) {r : std.Result Summary Refusal} → room.told r ≡ read_of o → {x : Refusal} → r ≡ Err x → {t u : List ℕ} → t ≡ node_table nsize o → u ≡ item_table isize o
+    → exits.Says nsize isize o (question climbs w row f) (bad (number_of x.0) x.1) t u
 says-refused climbs f w row nsize isize o e k a b = exits.says-unread nsize isize o (question climbs w row f) e k a b
 
 -- ---- the question over an accepted file
@@ -170,15 +169,15 @@ module _ (climbs : Bool) (f : List ℕ) (w : Wanted) (row nsize isize : ℕ) {o 
   pub says-no_row : s.nodes ≤ row → {t' u' : List ℕ} → t' ≡ replicate nsize 0 → u' ≡ replicate isize 0 → Says (bad 18 0) t' u'
   says-no_row l a b = let c = count-is in let e : ltb row (length d.ns) ≡ false = le-ltb row (length d.ns) (omega arith) in says-bad (as_found ∙ simp e) a b
 
-  module _ (l : row < s.nodes) (r : Found) (g : told r ≡ found_by climbs f w (nodes_in s.nodes t) (items_in s.items u) row) where
+  module _ (l : row < s.nodes) (r : std.Result (ℕ × Item) Refusal) (g : told r ≡ found_by climbs f w (nodes_in s.nodes t) (items_in s.items u) row) where
     found-is : question climbs w row f d.h d.ns d.is ≡ told r
     found-is =
         let c = count-is in
         let e : ltb row (length d.ns) ≡ true = lt-ltb row (length d.ns) (omega arith) in
         as_found ∙ (simp e) ∙ ap₂ (λ (x : List Node) (y : List Item). found_by climbs f w x y row) (sym d.nodes-are) (sym d.items-are) ∙ sym g
 
-    pub says-no_item : {n p : ℕ} → r ≡ found.Refused n p → {t' u' : List ℕ} → t' ≡ replicate nsize 0 → u' ≡ replicate isize 0 → Says (bad n p) t' u'
+    pub says-no_item : {x : Refusal} → r ≡ Err x → {t' u' : List ℕ} → t' ≡ replicate nsize 0 → u' ≡ replicate isize 0 → Says (bad (number_of x.0) x.1) t' u'
     says-no_item e a b = says-bad (found-is ∙ ap told e) a b
 
-    pub says-item : {i : ℕ} {item : Item} → r ≡ found.Item i item → t ≡ node_table nsize o → u ≡ item_table isize o → Says (good (record { row = i; item = item })) t u
+    pub says-item : {x : ℕ × Item} → r ≡ Ok x → t ≡ node_table nsize o → u ≡ item_table isize o → Says (told (Ok x)) t u
     says-item e a b = exits.says-answer nsize isize o (question climbs w row f) d.reads (found-is ∙ ap told e) a b

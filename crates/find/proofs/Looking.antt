@@ -27,12 +27,12 @@ module _ (f : List ℕ) (w : Wanted) (ws : List ℕ) (m first end i : ℕ) (h : 
         ∙ ap (λ (x : Item). cond (matches f w x) (good (record { row = i; item = x })) (looked f w (items_in m ws) (i + 1) end)) (item-at ws m i (omega arith) ∙ sym e)
         ∙ ap (λ (x : Bool). cond x (good (record { row = i; item = r })) (looked f w (items_in m ws) (i + 1) end)) (sym t)
 
-    pub row-found : b ≡ true → good (record { row = i; item = r }) ≡ looked f w (items_in m ws) first end
-    row-found k = sym (step ∙ simp k)
+    pub row_found : b ≡ true → good (record { row = i; item = r }) ≡ looked f w (items_in m ws) first end
+    row_found k = sym (step ∙ simp k)
 
     pub row_other : b ≡ false → looked f w (items_in m ws) first end ≡ looked f w (items_in m ws) (i + 1) end
     row_other k = step ∙ simp k
 
-  pub row-none : end ≤ i → bad 23 0 ≡ looked f w (items_in m ws) first end
+  pub row_none : end ≤ i → bad 23 0 ≡ looked f w (items_in m ws) first end
   unfolding numbered among
-  row-none l = sym (h ∙ ap (λ (v : List Item). among f w (numbered i v)) (part_none (items_in m ws) i end l))
+  row_none l = sym (h ∙ ap (λ (v : List Item). among f w (numbered i v)) (part_none (items_in m ws) i end l))

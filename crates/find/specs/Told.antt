@@ -1,6 +1,9 @@
 -- What the code's field and answer say.
 -- Assumes nothing.
-use Rattle.std.specs.Prelude.{Bool, true, false, List, ℕ}
+use Rattle.std.specs.Prelude.{Bool, true, false, Ok, Err, List, ℕ}
+use Rattle.std.specs.Prelude as std
+use Rattle.refusals.specs.Reasons.{number_of}
+use Rattle.refusals.specs.declared.Refusal.{Refusal}
 use Rattle.cursor.specs.declared.Node.{Node}
 use Rattle.cursor.specs.declared.Item.{Item}
 use Rattle.file.specs.Asking.{Asks, Result, good, bad}
@@ -8,17 +11,15 @@ use Rattle.file.specs.Own.{Numbered}
 use Rattle.find.specs.Find.{Wanted, standard, custom, look, nearest, find, find_own}
 use Rattle.find.specs.declared.Field.{Field}
 use Rattle.find.specs.declared.Field.TheVariants as field
-use Rattle.find.specs.declared.Found.{Found}
-use Rattle.find.specs.declared.Found.TheVariants as found
 
 -- the field that is looked for, with the name that stands beside it
 abbrev pub wanted_of : Field → List ℕ → Wanted
 wanted_of (field.Standard n) name = standard n
 wanted_of field.Custom name = custom name
 
-abbrev pub told : Found → Result Numbered
-told (found.Item i r) = good (record { row = i; item = r })
-told (found.Refused n p) = bad n p
+abbrev pub told : std.Result (ℕ × Item) Refusal → Result Numbered
+told (Ok (i, r)) = good (record { row = i; item = r })
+told (Err r) = bad (number_of r.0) r.1
 
 -- what is found from node k: the nearest item, or its own
 abbrev pub found_by : (climbs : Bool) → List ℕ → Wanted → List Node → List Item → ℕ → Result Numbered

@@ -5,11 +5,11 @@ ghost use Rattle.std.specs.Prelude.{◌≡◌, ◌≤◌, ◌<◌, ◌*◌, ◌+
 ghost use Rattle.rows.specs.Rows.{node_width, nodes_in, items_in, ItemIn, ItemRows};
 ghost use Rattle.file.specs.Asking.{answered, nodes_left, items_left};
 ghost use Rattle.file.specs.Own.{numbered, part, first_row, Tables};
-ghost use Rattle.find.specs.Find.{standard, custom, same_bytes, matches, among, nearest, find, find_own};
+ghost use Rattle.find.specs.Find.{standard, custom, matches, among, nearest, find, find_own};
 ghost use Rattle.find.specs.Told.{wanted_of, told, found_by, question};
 
 use cursor::Item;
-use file::Read;
+use refusals::{Reason, Refusal};
 
 // The field that is looked for: a standard number, or the custom name that is lent beside it.
 #[derive(Clone, Copy)]
@@ -18,62 +18,31 @@ pub enum Field {
     Custom,
 }
 
-// The item row that was found, as its number in the item table and its ten words; or a refusal, as number and place.
-#[derive(Clone, Copy)]
-pub enum Found {
-    Item(usize, Item),
-    Refused(u64, usize),
-}
-
-// Whether the file's bytes from `at` on are those of the name.
-fn same_bytes(file: &[u8], at: usize, name: &[u8]) -> bool
-    requires { at + length name.now ≤ length file.now }
-    ensures { result ≡ same_bytes file.now at name.now }
-{
-    let mut i = 0;
-    while i < name.len() {
-        if file[at + i] != name[i] {
-            return false;
-        }
-        i = i + 1;
-    }
-    true
-}
-
-// Whether the row is of that custom name.
+// Whether the row is of that custom name. An empty name is never found.
+#[tactic(auto, using(crate::proofs::Matching::compared), unfolding(crate::specs::Find::matches))]
 fn is_named(file: &[u8], row: Item, name: &[u8]) -> bool
     requires { ItemIn (length file.now) row }
     ensures { result ≡ matches file.now (custom name.now) row }
 {
-    if name.len() == 0 {
-        return false;
-    }
-    if row.kind != 1 {
-        return false;
-    }
-    if row.name_length != name.len() as u64 {
-        return false;
-    }
-    same_bytes(file, row.field as usize, name)
+    let at = row.field as usize;
+    let size = name.len();
+    0 < size && row.kind == 1 && row.name_length == size as u64 && &file[at..at + size] == name
 }
 
 // Whether the row is of that field.
+#[tactic(auto, unfolding(crate::specs::Find::matches))]
 fn is_wanted(file: &[u8], row: Item, field: Field, name: &[u8]) -> bool
     requires { ItemIn (length file.now) row }
     ensures { result ≡ matches file.now (wanted_of field name.now) row }
 {
     match field {
         Field::Custom => is_named(file, row, name),
-        Field::Standard(number) => {
-            if row.kind != 0 {
-                return false;
-            }
-            row.field == number
-        }
+        Field::Standard(number) => row.kind == 0 && row.field == number,
     }
 }
 
-// The first row of that field among the item rows from `first` on and before `end`.
+// The first row of that field among the item rows from `first` on and before `end`, as its number in the item table and its ten words.
+#[tactic(auto, using(crate::proofs::Looking::row_found, crate::proofs::Looking::row_other, crate::proofs::Looking::row_none))]
 fn look(
     file: &[u8],
     items: &[u64],
@@ -82,30 +51,27 @@ fn look(
     end: usize,
     field: Field,
     name: &[u8],
-) -> Found
+) -> Result<(usize, Item), Refusal>
     requires { ItemRows (length file.now) m items.now × (end ≤ m) }
     ensures { told result ≡ among file.now (wanted_of field name.now) (numbered first (part (items_in m items.now) first end)) }
 {
-    let mut i = first;
-    while i < end {
+    for i in first..end {
         let row = rows::item_at(items, i);
         if is_wanted(file, row, field, name) {
-            return Found::Item(i, row);
+            return Ok((i, row));
         }
-        i = i + 1;
     }
-    Found::Refused(cursor::NO_SUCH_ITEM, 0)
+    Err(Refusal(Reason::NoSuchItem, 0))
 }
 
 // The item row behind node k's own rows, where those of node `from`, which is later, begin at `first`. Goes back over the node rows between the two.
+#[tactic(auto, using(crate::proofs::Climbing::back_rows, crate::proofs::Climbing::back_one))]
 fn rows_end(nodes: &[u64], n: usize, from: usize, first: usize, k: usize) -> usize
     requires { (n * node_width ≤ length nodes.now) × (k < from) × (from ≤ n) × (first ≡ first_row (nodes_in n nodes.now) from) }
     ensures { result ≡ first_row (nodes_in n nodes.now) (k + 1) }
 {
-    let mut i = from;
     let mut end = first;
-    while k + 1 < i {
-        i = i - 1;
+    for i in (k + 1..from).rev() {
         let row = rows::node_at(nodes, i);
         end = end - row.rows as usize;
     }
@@ -124,18 +90,18 @@ fn climb(
     end: usize,
     field: Field,
     name: &[u8],
-) -> Found
+) -> Result<(usize, Item), Refusal>
     requires { Tables file.now nodes.now items.now n m × (k < n) × (end ≡ first_row (nodes_in n nodes.now) (k + 1)) }
     ensures { told result ≡ nearest file.now (wanted_of field name.now) (nodes_in n nodes.now) (items_in m items.now) k }
 {
     let row = rows::node_at(nodes, k);
     let first = end - row.rows as usize;
     match look(file, items, m, first, end, field, name) {
-        Found::Item(i, item) => Found::Item(i, item),
-        Found::Refused(_, _) => {
+        Ok(found) => Ok(found),
+        Err(_) => {
             let parent = row.parent as usize;
             if k <= parent {
-                return Found::Refused(cursor::NO_SUCH_ITEM, 0);
+                return Err(Refusal(Reason::NoSuchItem, 0));
             }
             let before = rows_end(nodes, n, k, first, parent);
             climb(file, nodes, items, n, m, parent, before, field, name)
@@ -144,6 +110,7 @@ fn climb(
 }
 
 // What is found from node k: the nearest row of that field, or its own.
+#[tactic(auto, using(crate::proofs::Climbing::looks))]
 fn found_by(
     file: &[u8],
     nodes: &[u64],
@@ -154,7 +121,7 @@ fn found_by(
     field: Field,
     name: &[u8],
     climbs: bool,
-) -> Found
+) -> Result<(usize, Item), Refusal>
     requires { Tables file.now nodes.now items.now n m × (k < n) }
     ensures { told result ≡ found_by climbs file.now (wanted_of field name.now) (nodes_in n nodes.now) (items_in m items.now) k }
 {
@@ -175,27 +142,23 @@ fn find_field(
     field: Field,
     name: &[u8],
     climbs: bool,
-) -> Found
+) -> Result<(usize, Item), Refusal>
     ensures answer { told result ≡ answered nodes.old items.old file.now (question climbs (wanted_of field name.now) row) }
     ensures nodes { nodes.new ≡ nodes_left nodes.old items.old file.now (question climbs (wanted_of field name.now) row) }
     ensures items { items.new ≡ items_left nodes.old items.old file.now (question climbs (wanted_of field name.now) row) }
 {
-    match file::read_file(file, nodes, items) {
-        Read::Refused(n, p) => Found::Refused(n, p.0),
-        Read::Is(s) => {
-            if s.nodes <= row {
-                rows::clear_all(nodes, items);
-                return Found::Refused(cursor::NO_SUCH_ROW, 0);
-            }
-            match found_by(
-                file, nodes, items, s.nodes, s.items, row, field, name, climbs,
-            ) {
-                Found::Item(i, item) => Found::Item(i, item),
-                Found::Refused(n, p) => {
-                    rows::clear_all(nodes, items);
-                    Found::Refused(n, p)
-                }
-            }
+    let s = file::read_file(file, nodes, items)?;
+    if s.nodes <= row {
+        rows::clear_all(nodes, items);
+        return Err(Refusal(Reason::NoSuchRow, 0));
+    }
+    match found_by(
+        file, nodes, items, s.nodes, s.items, row, field, name, climbs,
+    ) {
+        Ok(found) => Ok(found),
+        Err(r) => {
+            rows::clear_all(nodes, items);
+            Err(r)
         }
     }
 }
@@ -207,7 +170,7 @@ pub fn find_standard(
     items: &mut [u64],
     row: usize,
     number: u64,
-) -> Found
+) -> Result<(usize, Item), Refusal>
     ensures answer { told result ≡ answered nodes.old items.old file.now (find (standard number) row) }
     ensures nodes { nodes.new ≡ nodes_left nodes.old items.old file.now (find (standard number) row) }
     ensures items { items.new ≡ items_left nodes.old items.old file.now (find (standard number) row) }
@@ -222,7 +185,7 @@ pub fn find_custom(
     items: &mut [u64],
     row: usize,
     name: &[u8],
-) -> Found
+) -> Result<(usize, Item), Refusal>
     ensures answer { told result ≡ answered nodes.old items.old file.now (find (custom name.now) row) }
     ensures nodes { nodes.new ≡ nodes_left nodes.old items.old file.now (find (custom name.now) row) }
     ensures items { items.new ≡ items_left nodes.old items.old file.now (find (custom name.now) row) }
@@ -237,7 +200,7 @@ pub fn find_own_standard(
     items: &mut [u64],
     row: usize,
     number: u64,
-) -> Found
+) -> Result<(usize, Item), Refusal>
     ensures answer { told result ≡ answered nodes.old items.old file.now (find_own (standard number) row) }
     ensures nodes { nodes.new ≡ nodes_left nodes.old items.old file.now (find_own (standard number) row) }
     ensures items { items.new ≡ items_left nodes.old items.old file.now (find_own (standard number) row) }
@@ -252,7 +215,7 @@ pub fn find_own_custom(
     items: &mut [u64],
     row: usize,
     name: &[u8],
-) -> Found
+) -> Result<(usize, Item), Refusal>
     ensures answer { told result ≡ answered nodes.old items.old file.now (find_own (custom name.now) row) }
     ensures nodes { nodes.new ≡ nodes_left nodes.old items.old file.now (find_own (custom name.now) row) }
     ensures items { items.new ≡ items_left nodes.old items.old file.now (find_own (custom name.now) row) }

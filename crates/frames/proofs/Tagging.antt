@@ -3,7 +3,7 @@
 use mathlib.Core.Path.{◌≡◌, refl, sym, ap, ◌∙◌}
 use mathlib.Core.Bool.{Bool, true, false}
 use mathlib.Core.List.{List, [], ◌∷◌, ◌++◌, append_assoc}
-use Prim.Native.Nat.{ℕ, suc, ◌+◌, ◌-◌, ◌%◌, ◌≤◌, ◌<◌}
+use Prim.Native.Nat.{ℕ, suc, ◌+◌, ◌-◌, ◌≤◌, ◌<◌}
 use native.Mathlib.Omega.{arith}
 use lib.ListN.{length, take, drop, get_or}
 use lib.Seq.{drop-cons, drop-length}
@@ -18,16 +18,16 @@ use Rattle.text.specs.Text.{tabbed, number, escaped_part}
 use Rattle.id3.specs.Frames.{frames_of, no_frame, count_in, frame_in, frame_count, frame_at}
 use Rattle.id3.specs.Told.{count_told, frame_told}
 use Rattle.id3.specs.declared.TagFrame.{TagFrame}
-use Rattle.id3.specs.declared.FrameCount.{FrameCount}
-use Rattle.id3.specs.declared.FrameCount.TheVariants as counted
-use Rattle.id3.specs.declared.Framed.{Framed}
-use Rattle.id3.specs.declared.Framed.TheVariants as framed
+use Rattle.std.proofs.Common as std
+use Rattle.std.proofs.Common.{Ok, Err}
+use Rattle.refusals.specs.Reasons.{number_of}
+use Rattle.refusals.specs.declared.Refusal.{Refusal}
 use Rattle.lines.specs.Answer.{plainly, nothing, name_field, printed}
 use Rattle.needs.specs.Needed.{answers}
 use Rattle.frames.specs.Tags.{name_bytes, frame_line, frame_lines, all_lines, one_line, tag_lines, tag_answer, withheld, shown_tag}
 use Rattle.frames.specs.declared.Frames.{Frames}
 use Rattle.frames.specs.declared.Frames.TheVariants as frames
-use Rattle.needs.proofs.Needing.{hidden_is, visible-is, told-printed}
+use Rattle.needs.proofs.Needing.{told-printed}
 
 pub frame_is : (i : ℕ) (x : TagFrame) {name : List ℕ} → name ≡ name_bytes x.name
     → (0x46 ∷ []) ++ number i ++ (0x09 ∷ []) ++ escaped_part name 0 4 ++ number x.place ++ number x.size ++ (0x0A ∷ []) ≡ frame_line i x
@@ -46,7 +46,7 @@ pub record Framing (s : List ℕ) (count : ℕ) (o o' : List ℕ) (next i : ℕ)
   pub going : Going o o' 0 next (frame_lines 0 all) (frame_lines i (drop i all))
 
 module _ (s : List ℕ) where
-  pub framing_refused : {r : FrameCount} → count_told r ≡ frame_count s → {n p : ℕ} → r ≡ counted.Refused n p → all_lines (frames_of s) ≡ bad n p
+  pub framing_refused : {r : std.Result ℕ Refusal} → count_told r ≡ frame_count s → {x : Refusal} → r ≡ Err x → all_lines (frames_of s) ≡ bad (number_of x.0) x.1
   unfolding frame_count count_in all_lines
   framing_refused e k = by (frames_of s) (sym e ∙ ap count_told k)
     where
@@ -54,7 +54,7 @@ module _ (s : List ℕ) where
       by (ok xs q) h = let z : ◌≡◌ {A = ℕ} 0 1 = cc in absurd (omega arith)
       by (refused m q) {n} {p} h = let a : m ≡ n = cc in let b : q ≡ p = cc in rw (a, b)
 
-  pub framing_start : {r : FrameCount} → count_told r ≡ frame_count s → {count : ℕ} → r ≡ counted.Is count → (o : List ℕ) → Framing s count o o 0 0
+  pub framing_start : {r : std.Result ℕ Refusal} → count_told r ≡ frame_count s → {count : ℕ} → r ≡ Ok count → (o : List ℕ) → Framing s count o o 0 0
   unfolding frame_count count_in
   framing_start e {count} k o = by (frames_of s) refl (sym e ∙ ap count_told k)
     where
@@ -63,15 +63,15 @@ module _ (s : List ℕ) where
       by (refused m q) h g = let z : ◌≡◌ {A = ℕ} 0 1 = cc in absurd (omega arith)
 
   module _ {count : ℕ} {o o' : List ℕ} {next i : ℕ} (g : Framing s count o o' next i) where
-    module _ (l : i < count) (r : Framed) (e : frame_told r ≡ frame_at i s) where
+    module _ (l : i < count) (r : std.Result TagFrame Refusal) (e : frame_told r ≡ frame_at i s) where
       there : frame_told r ≡ good (get_or g.all i no_frame)
       unfolding frame_at frame_in
       there = let m = g.many in e ∙ rw (g.walked, lt-ltb i (length g.all) (omega arith))
 
-      pub framing_no : {n p : ℕ} → r ≡ framed.Refused n p → ⊥
-      framing_no {n} {p} k = let h : bad n p ≡ good (get_or g.all i no_frame) = sym (ap frame_told k) ∙ there in let z : ◌≡◌ {A = ℕ} 0 1 = cc in omega arith
+      pub framing_no : {x : Refusal} → r ≡ Err x → ⊥
+      framing_no {x} k = let h : bad (number_of x.0) x.1 ≡ good (get_or g.all i no_frame) = sym (ap frame_told k) ∙ there in let z : ◌≡◌ {A = ℕ} 0 1 = cc in omega arith
 
-      pub framing_on : {x : TagFrame} → r ≡ framed.Is x → {o'' : List ℕ} {next' : ℕ} → Counts o' o'' next (frame_line i x) next' → Framing s count o o'' next' (i + 1)
+      pub framing_on : {x : TagFrame} → r ≡ Ok x → {o'' : List ℕ} {next' : ℕ} → Counts o' o'' next (frame_line i x) next' → Framing s count o o'' next' (i + 1)
       unfolding frame_lines
       framing_on {x} k p =
           let m = g.many in
@@ -88,12 +88,12 @@ module _ (s : List ℕ) where
 
 -- ---- one frame
 
-module _ (s : List ℕ) (i : ℕ) {r : Framed} (e : frame_told r ≡ frame_at i s) where
-  pub one-bad : {n p : ℕ} → r ≡ framed.Refused n p → one_line i (frame_at i s) ≡ bad n p
+module _ (s : List ℕ) (i : ℕ) {r : std.Result TagFrame Refusal} (e : frame_told r ≡ frame_at i s) where
+  pub one-bad : {x : Refusal} → r ≡ Err x → one_line i (frame_at i s) ≡ bad (number_of x.0) x.1
   unfolding one_line
   one-bad k = ap (one_line i) (sym e ∙ ap frame_told k)
 
-  pub one-good : {x : TagFrame} → r ≡ framed.Is x → one_line i (frame_at i s) ≡ good (frame_line i x)
+  pub one-good : {x : TagFrame} → r ≡ Ok x → one_line i (frame_at i s) ≡ good (frame_line i x)
   unfolding one_line
   one-good k = ap (one_line i) (sym e ∙ ap frame_told k)
 
@@ -109,18 +109,6 @@ module _ (s : List ℕ) {which : Frames} where
   tag_one e = rw e
 
 -- ---- of an item row
-
-pub meant-shown : (r : Item) {meant : Bool} → meant ≡ true → false ≡ withheld meant r
-unfolding withheld
-meant-shown r e = rw e
-
-pub hidden_kept : (r : Item) {meant : Bool} → meant ≡ false → r.format % 2 ≡ 1 → true ≡ withheld meant r
-unfolding withheld
-hidden_kept r e h = rw (e, hidden_is r h)
-
-pub visible-shown : (r : Item) {meant : Bool} → meant ≡ false → (r.format % 2 ≡ 1 → ⊥) → false ≡ withheld meant r
-unfolding withheld
-visible-shown r e h = rw (e, visible-is r h)
 
 module _ (f : List ℕ) (row : ℕ) (r : Item) (which : Frames) (meant : Bool) {b : Bool} (e : b ≡ withheld meant r) where
   pub tag-kept : b ≡ true → shown_tag meant which f row r ≡ good nothing

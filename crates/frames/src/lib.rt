@@ -10,10 +10,10 @@ ghost use Rattle.frames.specs.Tags.{name_bytes, frame_line, all_lines, one_line,
 ghost use Rattle.id3.specs.Frames.{frames_of, frame_at};
 
 use cursor::Item;
-use file::Read;
-use id3::{FrameCount, Framed, TagFrame};
+use id3::TagFrame;
 use lines::{Made, refuse};
-use needs::{Put, hidden, put_answered};
+use needs::{hidden, put_answered};
+use refusals::{Reason, Refusal};
 
 // All frames, or the frame of a number.
 #[derive(Clone, Copy)]
@@ -49,38 +49,28 @@ fn put_frame(out: &mut [u8], to: usize, i: usize, x: TagFrame) -> usize
 }
 
 // Puts the lines of all frames. The tag is walked once for each.
-fn put_frames(out: &mut [u8], tag: &[u8]) -> Put
+fn put_frames(out: &mut [u8], tag: &[u8]) -> Result<usize, Refusal>
     ensures { Puts out.old out.new 0 (all_lines (frames_of tag.now)) result }
 {
-    match id3::frame_count(tag) {
-        FrameCount::Refused(n, p) => Put::Refused(n, p),
-        FrameCount::Is(count) => {
-            let mut next: usize = 0;
-            let mut i = 0;
-            while i < count {
-                match id3::frame(tag, i) {
-                    Framed::Refused(n, p) => return Put::Refused(n, p),
-                    Framed::Is(x) => next = put_frame(out, next, i, x),
-                }
-                i = i + 1;
-            }
-            Put::To(next)
-        }
+    let count = id3::frame_count(tag)?;
+    let mut next: usize = 0;
+    for i in 0..count {
+        let x = id3::frame(tag, i)?;
+        next = put_frame(out, next, i, x);
     }
+    Ok(next)
 }
 
 // Puts the line of one frame.
-fn put_one(out: &mut [u8], tag: &[u8], i: usize) -> Put
+fn put_one(out: &mut [u8], tag: &[u8], i: usize) -> Result<usize, Refusal>
     ensures { Puts out.old out.new 0 (one_line i (frame_at i tag.now)) result }
 {
-    match id3::frame(tag, i) {
-        Framed::Refused(n, p) => Put::Refused(n, p),
-        Framed::Is(x) => Put::To(put_frame(out, 0, i, x)),
-    }
+    let x = id3::frame(tag, i)?;
+    Ok(put_frame(out, 0, i, x))
 }
 
 // Puts the lines that are asked for.
-fn put_tag(out: &mut [u8], tag: &[u8], which: Frames) -> Put
+fn put_tag(out: &mut [u8], tag: &[u8], which: Frames) -> Result<usize, Refusal>
     ensures { Puts out.old out.new 0 (tag_lines which tag.now) result }
 {
     match which {
@@ -97,16 +87,11 @@ pub fn make_tag(tag: &[u8], which: Frames, text: &mut [u8]) -> Made
 }
 
 // Whether a row's data is kept back: where it is hidden, unless it is meant.
+#[tactic(auto, unfolding(crate::specs::Tags::withheld, file::specs::Hidden::is_hidden))]
 fn is_withheld(item: Item, meant: bool) -> bool
     ensures { result ≡ withheld meant item }
 {
-    if meant {
-        return false;
-    }
-    if item.format % 2 == 1 {
-        return true;
-    }
-    false
+    !meant && item.format % 2 == 1
 }
 
 // The frames of the tag that is an item's data. Nothing is asked of it where it is kept back.
@@ -135,10 +120,10 @@ pub fn make_row_tag(file: &[u8], row: usize, meant: bool, which: Frames, text: &
     let mut nodes = program::node_table();
     let mut items = program::item_table();
     match file::read_file(file, &mut nodes, &mut items) {
-        Read::Refused(n, p) => refuse(text, b"", n, p.0),
-        Read::Is(s) => {
+        Err(e) => refuse(text, b"", e),
+        Ok(s) => {
             if s.items <= row {
-                return refuse(text, b"", cursor::NO_SUCH_ROW, 0);
+                return refuse(text, b"", Refusal(Reason::NoSuchRow, 0));
             }
             make_item_tag(file, row, rows::item_at(&items, row), meant, which, text)
         }

@@ -3,7 +3,6 @@
 
 use answers::Asked;
 use console::Host;
-use spelling::Number;
 use std::io::{Eprint, Print};
 
 // Says where a resource comes from.
@@ -42,10 +41,10 @@ fn extract_named(rt: &impl Host, name: &[u8], row: usize) -> u64 {
 
 // The file's name is an argument, and its row the one after.
 fn extract_row(rt: &impl Host, name: &[u8]) -> u64 {
-    match console::number_at(rt, 4) {
-        Number::None => 1,
-        Number::Is(row) => extract_named(rt, name, row as usize),
-    }
+    let Some(row) = console::number_at(rt, 4) else {
+        return 1;
+    };
+    extract_named(rt, name, row as usize)
 }
 
 // FILE ROW OUT NEW
@@ -54,12 +53,9 @@ pub fn extract(rt: &impl Host, count: usize) -> u64 {
         return console::usage(rt);
     }
     let mut name = io::buffer();
-    match program::arg(rt, 3, &mut name) {
-        Ok(n) => extract_row(rt, &name[..n]),
-        Err(error) => {
-            console::failed(rt, b"the file's name", error);
-            1
-        }
+    match console::arg_at(rt, 3, b"the file's name", &mut name) {
+        Some(n) => extract_row(rt, &name[..n]),
+        None => 1,
     }
 }
 

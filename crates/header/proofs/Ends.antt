@@ -6,7 +6,6 @@ use Prim.Native.Nat.{ℕ, ◌+◌, ◌^◌, ◌≤◌, ◌<◌}
 use native.Mathlib.Omega.{arith}
 use lib.ListN.{length}
 use borrow.Author.Tests.{ltb-true, leb-true}
-use Rattle.cursor.specs.Leaves.{next, number, block}
 use Rattle.machine.proofs.Wp.{Wp, wp_after, wp_then, wp_weaken, wp_ret, wp_refuse, wp_if, wp_check, wp_checked, wp_place, wp_skip, wp_times}
 use Rattle.cursor.proofs.Leaves.{Any, next-on, number-on, block_on}
 use Rattle.header.specs.Types.{Declared}

@@ -1,3 +1,4 @@
+pub mod Reading
 pub mod Types
 pub mod Ends
 pub mod Ways

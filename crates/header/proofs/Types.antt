@@ -5,7 +5,7 @@ use mathlib.Core.List.{List, [], ◌∷◌, ◌++◌}
 use Prim.Native.Nat.{ℕ, zero, suc, ◌+◌, ◌*◌, ◌-◌, ◌≤◌, ◌<◌}
 use native.Mathlib.Omega.{arith}
 use lib.ListN.{length, get_or, set, length-set}
-use lib.Seq.{get_or-set_same, get_or-set_other}
+use lib.Seq.{sets, get_or-set_same, get_or-set_other}
 use borrow.Author.Tests.{eq-eqb, ne_eqb}
 use Rattle.header.specs.Types.{known, unknown, format_of, types_from, types_of}
 
@@ -50,15 +50,18 @@ before i zero k v ws l = refl
 before i (suc n) k v ws l =
     rw (get_or-set_other ws k (i * 2) v 0 (λ e. omega arith), get_or-set_other ws k (i * 2 + 1) v 0 (λ e. omega arith), before (i + 1) n k v ws (omega arith))
 
-pub declared : (n t f : ℕ) (ws : List ℕ) → n * 2 + 2 ≤ length ws
+two : (n t f : ℕ) (ws : List ℕ) → n * 2 + 2 ≤ length ws
     → types_of (n + 1) (set (set ws (n * 2) t) (n * 2 + 1) f) ≡ types_of n ws ++ (record { type = t; format = f } ∷ [])
 unfolding types_of
-declared n t f ws l =
+two n t f ws l =
     let a : n + 1 ≡ suc n = omega arith in let b : 0 + n ≡ n = omega arith in let s = set ws (n * 2) t in
     let k : length s ≡ length ws = length-set ws (n * 2) t in
     let x : get_or (set s (n * 2 + 1) f) (n * 2) 0 ≡ t = get_or-set_other s (n * 2 + 1) (n * 2) f 0 (λ e. omega arith) ∙ get_or-set_same ws (n * 2) t 0 (omega arith) in
     let y : get_or (set s (n * 2 + 1) f) (n * 2 + 1) 0 ≡ f = get_or-set_same s (n * 2 + 1) f 0 (omega arith) in
     rw (a, more 0 n (set s (n * 2 + 1) f), b, x, y, before 0 n (n * 2 + 1) f s (omega arith), before 0 n (n * 2) t ws (omega arith))
+
+pub declared : (n t f : ℕ) (ws : List ℕ) → n * 2 + 2 ≤ length ws → types_of (n + 1) (sets ws (n * 2) (t ∷ f ∷ [])) ≡ types_of n ws ++ (record { type = t; format = f } ∷ [])
+declared n t f ws l = let z : suc (n * 2) ≡ n * 2 + 1 = omega arith in rw z (two n t f ws l)
 
 -- as many types as are asked for
 from-length : (i n : ℕ) (ws : List ℕ) → length (types_from i n ws) ≡ n

@@ -1,8 +1,6 @@
 -- The types that a file declares, and the format of one; read off the words of a table, two words a type.
 -- Assumes nothing.
-use Rattle.std.specs.Prelude.{Bool, true, false, cond, List, [], ◌∷◌, ℕ, zero, suc, ◌+◌, ◌*◌, eqb, get_or}
-use Rattle.header.specs.declared.Found.{Found}
-use Rattle.header.specs.declared.Found.TheVariants.{Format, Nothing}
+use Rattle.std.specs.Prelude.{Bool, true, false, cond, Option, Some, None, List, [], ◌∷◌, ℕ, zero, suc, ◌+◌, ◌*◌, eqb, get_or}
 
 -- the most types
 abbrev pub most_types : ℕ
@@ -33,6 +31,6 @@ types_from i (suc n) ws = record { type = get_or ws (i * 2) 0; format = get_or w
 unfoldable pub types_of : ℕ → List ℕ → List Declared
 types_of n ws = types_from 0 n ws
 
-abbrev pub found_told : Found → Known
-found_told (Format f) = known f
-found_told Nothing = unknown
+abbrev pub found_told : Option ℕ → Known
+found_told (Some f) = known f
+found_told None = unknown

@@ -6,13 +6,15 @@ use Prim.Native.Nat.{ℕ, ◌-◌, ◌≤◌, ◌<◌}
 use native.Mathlib.Omega.{arith}
 use lib.ListN.{length, length-append, take, replicate}
 use borrow.Author.Tests.{le-leb, lt-leb}
+use Rattle.std.proofs.Common as std
+use Rattle.std.proofs.Common.{Ok, Err}
+use Rattle.refusals.specs.Reasons.{number_of}
+use Rattle.refusals.specs.declared.Refusal.{Refusal}
 use Rattle.room.specs.Room.{Result, good, bad, padded, counted, kept}
 use Rattle.io.specs.Counts as io
 use Rattle.io.proofs.Counting.{prefix_len_of_le}
 use Rattle.room.specs.Counts.{Counts, too_many}
 use Rattle.room.specs.Told.{told}
-use Rattle.room.specs.declared.Written.{Written}
-use Rattle.room.specs.declared.Written.TheVariants as written
 use Rattle.room.proofs.Counting.{wrote-all, wrote-past}
 use Rattle.text.specs.Text.{tabbed, number, escaped_part}
 use Rattle.lines.specs.Answer.{Answer, answer, plainly, name_field, ended, head_line, refusal_line, too_long_line, closed, refused_by, fitted, printed, Gives}
@@ -101,10 +103,10 @@ module _ (room : ℕ) (tail : List ℕ) where
   good-is {n} text (good s) z e t = let a : n ≡ length s = cc in rw (le-leb (length s) room (padded-room room s text z t)) (record { status-is = refl; size_is = a; text-is = t })
   good-is text (bad m q) z e t = let z : ◌≡◌ {A = ℕ} 0 1 = cc in absurd (omega arith)
 
-  pub settle_bad : (x : Result (List ℕ)) {n p : ℕ} {w : Written} → told w ≡ counted x → w ≡ written.Refused n p → refused_by room tail n p ≡ printed room tail plainly x
+  pub settle_bad : (x : Result (List ℕ)) {w : std.Result ℕ Refusal} {r : Refusal} → told w ≡ counted x → w ≡ Err r → refused_by room tail (number_of r.0) r.1 ≡ printed room tail plainly x
   settle_bad x e k = bad-is x (sym (ap told k) ∙ e)
 
-  pub settle_good : (x : Result (List ℕ)) {n : ℕ} {w : Written} (text : List ℕ) → length text ≡ room → told w ≡ counted x → w ≡ written.Bytes n → text ≡ kept room x
+  pub settle_good : (x : Result (List ℕ)) {n : ℕ} {w : std.Result ℕ Refusal} (text : List ℕ) → length text ≡ room → told w ≡ counted x → w ≡ Ok n → text ≡ kept room x
       → Gives room (record { status = 0; size = n }) text (printed room tail plainly x)
   settle_good x text z e k t = good-is text x z (sym (ap told k) ∙ e) t
 

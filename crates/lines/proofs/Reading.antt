@@ -5,21 +5,24 @@ use mathlib.Core.List.{List, [], ◌∷◌, ◌++◌}
 use Prim.Native.Nat.{ℕ, suc, ◌+◌, ◌*◌, ◌-◌, ◌≤◌, ◌<◌}
 use native.Mathlib.Omega.{arith}
 use lib.ListN.{length}
-use Rattle.cursor.specs.declared.FilePlace.{FilePlace}
+use Rattle.std.proofs.Common as std
+use Rattle.std.proofs.Common.{Ok, Err}
+use Rattle.refusals.specs.Reasons.{number_of}
+use Rattle.refusals.specs.declared.Refusal.{Refusal}
 use Rattle.cursor.specs.declared.Node.{Node}
 use Rattle.cursor.specs.declared.Item.{Item}
 use Rattle.header.specs.Header.{Header}
 use Rattle.metadata.specs.Tables.{full_nodes, full_items, limits}
 use Rattle.rows.specs.Rows.{item_width, item_from, item_at, rows_from}
 use Rattle.room.specs.Room.{Result, good, bad}
+use Rattle.room.specs.Told.{told}
 use Rattle.file.specs.Reading.{Reading, rows, refusal, read_of, read_file}
 use Rattle.file.specs.Asking.{ask}
-use Rattle.file.specs.declared.Read.{Read}
-use Rattle.file.specs.declared.Read.TheVariants as read
 use Rattle.file.specs.declared.Summary.{Summary}
 use Rattle.file.proofs.Rows.{Standing, ask-refused, ask-is}
 use Rattle.rows.proofs.Rows.{item-at, items-in_length}
-use Rattle.lines.specs.Answer.{reads}
+use Rattle.lines.specs.Answer.{Answer, refused_by, fitted, printed, reads}
+use Rattle.lines.proofs.Ending.{printed-good, printed-bad}
 
 -- ---- the lines of rows that stand in a table, one row after the other
 
@@ -60,17 +63,30 @@ module _ (f : List ℕ) {n i : ℕ} (en : full_nodes ≡ n) (ei : full_items ≡
   full q = ap (λ (o : Reading). ask o q) read_as
 
   -- the file is refused
-  pub unread : {r : Read} → r ≡ read_of (read_file (limits n i) f) → {m : ℕ} {p : FilePlace} → r ≡ read.Refused m p → {A : Type 0}
-      (q : Header → List Node → List Item → Result A) → ask (reads f) q ≡ bad m p.0
+  pub unread : {r : std.Result Summary Refusal} → told r ≡ read_of (read_file (limits n i) f) → {k : Refusal} → r ≡ Err k → {A : Type 0}
+      (q : Header → List Node → List Item → Result A) → ask (reads f) q ≡ bad (number_of k.0) k.1
   unread e k q = sym (full q) ∙ ask-refused (read_file (limits n i) f) e k q
+
+  pub unread-printed : {r : std.Result Summary Refusal} → told r ≡ read_of (read_file (limits n i) f) → {k : Refusal} → r ≡ Err k → {A : Type 0}
+      (q : Header → List Node → List Item → Result A) (shows : A → Answer) (room : ℕ) (tail : List ℕ) → refused_by room tail (number_of k.0) k.1 ≡ printed room tail shows (ask (reads f) q)
+  unread-printed e k q shows room tail = printed-bad shows room tail (unread e k q)
 
   -- its rows stand in the tables
   pub known : {s : Summary} {t u : List ℕ} (st : Standing f (read_file (limits n i) f) s t u) {A : Type 0}
       (q : Header → List Node → List Item → Result A) → ask (reads f) q ≡ q st.h st.ns st.is
   known st q = sym (full q) ∙ ask-is st.reads q
 
-  pub refused : {r : Read} → r ≡ read_of (read_file (limits n i) f) → {m : ℕ} {p : FilePlace} → r ≡ read.Refused m p → reads f ≡ refusal m p.0
+  pub refused : {r : std.Result Summary Refusal} → told r ≡ read_of (read_file (limits n i) f) → {k : Refusal} → r ≡ Err k → reads f ≡ refusal (number_of k.0) k.1
   refused e k = sym read_as ∙ refusal_is (read_file (limits n i) f) (ask-refused (read_file (limits n i) f) e k (λ h ns is. good 0))
+
+  -- what is printed of a call that asks the question
+  module _ {A : Type 0} (q : Header → List Node → List Item → Result A) (shows : A → Answer) (room : ℕ) (tail : List ℕ) {o : Result A}
+      (e : o ≡ ask (read_file (limits n i) f) q) where
+    pub asked-bad : {m p : ℕ} → o ≡ bad m p → refused_by room tail m p ≡ printed room tail shows (ask (reads f) q)
+    asked-bad k = printed-bad shows room tail (sym (full q) ∙ sym e ∙ k)
+
+    pub asked-good : {a : A} → o ≡ good a → fitted room tail (shows a) ≡ printed room tail shows (ask (reads f) q)
+    asked-good k = printed-good shows room tail (sym (full q) ∙ sym e ∙ k)
 
   pub accepted : {s : Summary} {t u : List ℕ} (st : Standing f (read_file (limits n i) f) s t u) → reads f ≡ rows st.h st.ns st.is
   accepted st = sym read_as ∙ st.reads

@@ -1,9 +1,10 @@
 -- An answer of the command: a status and a text, of what a call answers; and what is left in the lent buffer.
 -- Assumes nothing.
 use Rattle.std.specs.Prelude.{◌≡◌, cond, List, [], ◌∷◌, ◌++◌, ℕ, leb, length}
+use Rattle.std.specs.Prelude as std
+use Rattle.refusals.specs.declared.Refusal.{Refusal}
 use Rattle.room.specs.Room.{no_room, Result, good, bad, padded, counted, kept}
 use Rattle.room.specs.Told.{told}
-use Rattle.room.specs.declared.Written.{Written}
 use Rattle.metadata.specs.Tables.{full_nodes, full_items, limits}
 use Rattle.file.specs.Reading.{Reading, read_file}
 use Rattle.text.specs.Text.{tabbed, number, escaped_part}
@@ -77,6 +78,6 @@ pub record Gives (room : ℕ) (r : Made) (text : List ℕ) (a : Answer) : Type 0
   pub text-is : text ≡ padded room a.text
 
 -- of a call that filled the buffer, whatever its outcome x: `before` is what it left there, `after` what is left with a refusal's line in its place
-abbrev pub Settles : Written → (tail before after : List ℕ) → Made → Type 0
+abbrev pub Settles : std.Result ℕ Refusal → (tail before after : List ℕ) → Made → Type 0
 Settles written tail before after r =
     (room : ℕ) (x : Result (List ℕ)) → length before ≡ room → told written ≡ counted x → before ≡ kept room x → Gives room r after (printed room tail plainly x)

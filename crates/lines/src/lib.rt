@@ -2,10 +2,11 @@
 #![tactic(auto)]
 
 ghost use Rattle.std.specs.Prelude.{List, ℕ, length};
+ghost use Rattle.refusals.specs.Reasons.{number_of};
 ghost use Rattle.room.specs.Counts.{Counts};
 ghost use Rattle.lines.specs.Answer.{answer, name_field, ended, head_line, refusal_line, too_long_line, closed, refused_by, fitted, Gives, Settles};
 
-use room::Written;
+use refusals::{Reason, Refusal};
 
 // The status, and how many bytes at the start of the buffer are the text.
 #[derive(Clone, Copy)]
@@ -39,12 +40,12 @@ pub fn put_head(out: &mut [u8], tail: &[u8]) -> usize
 }
 
 // Puts the line of a refusal.
-fn put_refusal(out: &mut [u8], tail: &[u8], number: u64, place: usize) -> usize
-    ensures { Counts out.old out.new 0 (refusal_line tail.now number place) result }
+fn put_refusal(out: &mut [u8], tail: &[u8], e: Refusal) -> usize
+    ensures { Counts out.old out.new 0 (refusal_line tail.now (number_of e.0) e.1) result }
 {
     let a = room::put_byte(out, 0, b'R');
-    let b = text::put_number(out, a, number);
-    let c = text::put_number(out, b, place as u64);
+    let b = text::put_number(out, a, e.0.number());
+    let c = text::put_number(out, b, e.1 as u64);
     put_end(out, c, tail)
 }
 
@@ -61,18 +62,18 @@ fn close(text: &mut [u8], end: usize, status: u64) -> Made
     ensures { (o w : List ℕ) → Counts o text.old 0 w end → Gives (length o) result text.new (closed (length o) (answer status w)) }
 {
     if text.len() < end {
-        room::clear_bytes(text);
+        text.fill(0);
         return Made { status: 1, size: 0 };
     }
-    room::clear_bytes_from(text, end);
+    room::fill_from(text, end, 0);
     Made { status, size: end }
 }
 
 // The answer that is a refusal.
-pub fn refuse(text: &mut [u8], tail: &[u8], number: u64, place: usize) -> Made
-    ensures { Gives (length text.old) result text.new (refused_by (length text.old) tail.now number place) }
+pub fn refuse(text: &mut [u8], tail: &[u8], e: Refusal) -> Made
+    ensures { Gives (length text.old) result text.new (refused_by (length text.old) tail.now (number_of e.0) e.1) }
 {
-    let end = put_refusal(text, tail, number, place);
+    let end = put_refusal(text, tail, e);
     close(text, end, 2)
 }
 
@@ -89,17 +90,17 @@ pub fn conclude(text: &mut [u8], tail: &[u8], end: usize, status: u64) -> Made
     ensures { (o w : List ℕ) → Counts o text.old 0 w end → Gives (length o) result text.new (fitted (length o) tail.now (answer status w)) }
 {
     if text.len() < end {
-        return refuse(text, tail, cursor::NO_ROOM, 0);
+        return refuse(text, tail, Refusal(Reason::NoRoom, 0));
     }
     close(text, end, status)
 }
 
 // The answer whose text a call wrote into the buffer, or refused.
-pub fn settle(text: &mut [u8], tail: &[u8], written: Written) -> Made
+pub fn settle(text: &mut [u8], tail: &[u8], written: Result<usize, Refusal>) -> Made
     ensures { Settles written tail.now text.old text.new result }
 {
     match written {
-        Written::Refused(n, p) => refuse(text, tail, n, p),
-        Written::Bytes(n) => Made { status: 0, size: n },
+        Err(e) => refuse(text, tail, e),
+        Ok(n) => Made { status: 0, size: n },
     }
 }

@@ -13,12 +13,11 @@ use Rattle.cursor.specs.Rows.{P, Events, reference_frame}
 use Rattle.cursor.specs.Leaves.{number}
 use Rattle.cursor.specs.declared.Node.{Node}
 use Rattle.machine.proofs.Laws.{rows_on}
-use Rattle.header.specs.Header.{Header, header}
+use Rattle.header.specs.Header.{Header}
 use Rattle.metadata.specs.declared.Limits.{Limits}
 use Rattle.metadata.specs.declared.Made.{Made}
-use Rattle.tree.specs.Tree.{tree, detached}
 use Rattle.rows.specs.Rows.{node_at, node_of, nodes_of}
-use Rattle.file.specs.Reading.{Result, good, bad, rows, logged, detached_at, follow_row, follow, context, reading, read_tree}
+use Rattle.file.specs.Reading.{Result, good, bad, logged, detached_at, follow_row, follow, context, reading, read_tree}
 use Rattle.targets.specs.Targets.{place_of, is_missing, offset_at, outside}
 use Rattle.tree.proofs.Starts.{From, tree-from, detached-from}
 use Rattle.file.proofs.Shown.{outside-is, part-is}

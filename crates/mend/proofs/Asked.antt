@@ -1,5 +1,7 @@
 -- The call: what is known once the fields are read, and what each way out comes to.
 -- Assumes nothing.
+use Rattle.std.proofs.Common.{Ok, Err}
+use Rattle.std.proofs.Common as std
 use mathlib.Core.Path.{◌≡◌, refl, sym, ap, ◌∙◌, subst}
 use mathlib.Core.Bool.{Bool, true, false, cond, ◌&&◌, false≢true}
 use mathlib.Core.List.{List}
@@ -9,7 +11,8 @@ use lib.Dec.{leb}
 use lib.ListN.{length, replicate}
 use borrow.Author.Tests.{leb-true, ltb-true, le-leb, lt-ltb}
 use Rattle.machine.specs.Machine.{Out, ok, refused, run}
-use Rattle.cursor.specs.declared.FilePlace.{FilePlace}
+use Rattle.refusals.specs.Reasons.{number_of}
+use Rattle.refusals.specs.declared.Refusal.{Refusal}
 use Rattle.machine.proofs.Laws.{never}
 use Rattle.metadata.specs.Tables.{limits}
 use Rattle.metadata.specs.declared.Limits.{Limits}
@@ -17,12 +20,10 @@ use Rattle.room.specs.Room.{Result, good, bad, kept}
 use Rattle.file.specs.Reading.{Reading, rows, refusal, read_tree, read_file, read_of, node_table, item_table}
 use Rattle.file.specs.Asking.{written_nodes, written_items}
 use Rattle.file.specs.declared.Summary.{Summary}
-use Rattle.file.specs.declared.Read.{Read}
-use Rattle.file.specs.declared.Read.TheVariants as read
+use Rattle.room.specs.Told as answered
+use Rattle.file.proofs.Rows.{reads-refused}
 use Rattle.mend.specs.Fields.{Fields, fields}
 use Rattle.mend.specs.Mend.{set_to, number_at, last_of, both_lines, mended, changes, lines_of, Mended, fitting, accepted, mend}
-use Rattle.mend.specs.declared.FieldsRead.{FieldsRead}
-use Rattle.mend.specs.declared.FieldsRead.TheVariants as all
 use Rattle.mend.specs.declared.Fields as code
 use Rattle.mend.specs.Told.{fields_of, fields_told, FewTypes, FieldsIn, sound_for, setting, Sizes, sizes_of, copy_in, lines_in, kept_as, Set, Ends}
 use Rattle.mend.proofs.Parts.{places, fields-parts, header_for}
@@ -30,14 +31,14 @@ use Rattle.mend.proofs.Theorem.{Sound, mended-set, mended-is, mended-sound, mend
 
 -- ---- the fields, from the call that read them
 
-module _ (r : FieldsRead) (ws : List ℕ) {o : Out Fields} (told : fields_told r ws ≡ o) where
-  pub fields-are : {w : code.Fields} → r ≡ all.Is w → o ≡ ok (fields_of w ws) w.last.end.0
+module _ (r : std.Result code.Fields Refusal) (ws : List ℕ) {o : Out Fields} (told : fields_told r ws ≡ o) where
+  pub fields-are : {w : code.Fields} → r ≡ Ok w → o ≡ ok (fields_of w ws) w.last.end.0
   fields-are e = sym told ∙ ap (λ x. fields_told x ws) e
 
-  pub fields-no : {n : ℕ} {p : FilePlace} → r ≡ all.Refused n p → o ≡ refused n p.0
+  pub fields-no : {e : Refusal} → r ≡ Err e → o ≡ refused (number_of e.0) e.1
   fields-no e = sym told ∙ ap (λ x. fields_told x ws) e
 
-pub few : {r : FieldsRead} {w : code.Fields} → FewTypes r → r ≡ all.Is w → w.types ≤ 32
+pub few : {r : std.Result code.Fields Refusal} {w : code.Fields} → FewTypes r → r ≡ Ok w → w.types ≤ 32
 few f e = rw e at f
 
 pub fields_in : (f : List ℕ) {w : Fields} {q : ℕ} → run (fields (length f)) f 0 ≡ ok w q → FieldsIn w (length f)
@@ -119,34 +120,29 @@ module _ (lim : Limits) (f : List ℕ) {w : Fields} {q : ℕ} (e : run (fields (
       subst (λ c. read_file lim (mended f) ≡ read_tree lim f (ok (header_for w c) w.last.end)) (sym i)
       (mended-reads lim f (fields-parts (length f) f e).0 (subst (Sound (length f) w) i (sound_facts (length f) w b k)))
 
-  module _ (k : sound_for (length f) w b ≡ true) {r : Read} (a : r ≡ read_of (read_tree lim f (ok (header_for w b) w.last.end))) where
+  module _ (k : sound_for (length f) w b ≡ true) {r : std.Result Summary Refusal} (a : answered.told r ≡ read_of (read_tree lim f (ok (header_for w b) w.last.end))) where
     -- it is refused behind its header
-    pub lost_behind : {n : ℕ} {p : FilePlace} → r ≡ read.Refused n p → accepted (read_file lim (mended f)) ≡ false
-    unfolding read_of
-    lost_behind {n} {p} d = by (read_tree lim f (ok (header_for w b) w.last.end)) (reads-behind k) (sym a ∙ d)
-      where
-        by : (o : Reading) → read_file lim (mended f) ≡ o → read_of o ≡ read.Refused n p → accepted (read_file lim (mended f)) ≡ false
-        by (rows h ns is) x y = let z : ◌≡◌ {A = ℕ} 0 1 = cc in absurd (omega arith)
-        by (refusal m j) x y = ap accepted x
+    pub lost_behind : {q : Refusal} → r ≡ Err q → accepted (read_file lim (mended f)) ≡ false
+    lost_behind d = ap accepted (reads-behind k ∙ reads-refused (read_tree lim f (ok (header_for w b) w.last.end)) a d)
 
     -- it is accepted
-    taken : {s : Summary} → r ≡ read.Is s → accepted (read_file lim (mended f)) ≡ true
+    taken : {s : Summary} → r ≡ Ok s → accepted (read_file lim (mended f)) ≡ true
     unfolding read_of
-    taken {s} d = by (read_tree lim f (ok (header_for w b) w.last.end)) (reads-behind k) (sym a ∙ d)
+    taken {s} d = by (read_tree lim f (ok (header_for w b) w.last.end)) (reads-behind k) (ap answered.told (sym d) ∙ a)
       where
-        by : (o : Reading) → read_file lim (mended f) ≡ o → read_of o ≡ read.Is s → accepted (read_file lim (mended f)) ≡ true
+        by : (o : Reading) → read_file lim (mended f) ≡ o → good s ≡ read_of o → accepted (read_file lim (mended f)) ≡ true
         by (rows h ns is) x y = ap accepted x
-        by (refusal m j) x y = let z : ◌≡◌ {A = ℕ} 0 1 = cc in absurd (omega arith)
+        by (refusal m j) x y = cc
 
     -- and then the question is what is set
-    asked_is : {s : Summary} → r ≡ read.Is s → (room space : ℕ) → mend lim room space f ≡ setting room space f w b
+    asked_is : {s : Summary} → r ≡ Ok s → (room space : ℕ) → mend lim room space f ≡ setting room space f w b
     unfolding mend changes lines_of
     asked_is d room space = let m = mended-set f (fields-parts (length f) f e).0 in rw (taken d, m, e, i) refl
 
 module _ (f : List ℕ) (nsize isize room space : ℕ) {w : Fields} {q : ℕ} (e : run (fields (length f)) f 0 ≡ ok w q) {b : ℕ}
-    (i : b ≡ last_of f w) (k : sound_for (length f) w b ≡ true) {r : Read}
-    (a : r ≡ read_of (read_tree (limits nsize isize) f (ok (header_for w b) w.last.end))) where
-  pub ends_set : {s : Summary} → r ≡ read.Is s → {t u : List ℕ} → t ≡ node_table nsize
+    (i : b ≡ last_of f w) (k : sound_for (length f) w b ≡ true) {r : std.Result Summary Refusal}
+    (a : answered.told r ≡ read_of (read_tree (limits nsize isize) f (ok (header_for w b) w.last.end))) where
+  pub ends_set : {s : Summary} → r ≡ Ok s → {t u : List ℕ} → t ≡ node_table nsize
       (read_tree (limits nsize isize) f (ok (header_for w b) w.last.end)) → u ≡ item_table isize
       (read_tree (limits nsize isize) f (ok (header_for w b) w.last.end))
       → length t ≡ nsize → length u ≡ isize → {y : Result Sizes} {t' u' c l : List ℕ} → Set f w b y t u room space t' u' c l → Ends f nsize isize room space y t' u' c l

@@ -1,5 +1,7 @@
 -- The ways out: fields that are not sound, what is set, and a file that is refused as it is.
 -- Assumes nothing.
+use Rattle.std.proofs.Common.{Ok, Err}
+use Rattle.std.proofs.Common as std
 use mathlib.Core.Path.{◌≡◌, refl, sym, ap, ◌∙◌, subst}
 use mathlib.Core.Bool.{Bool, true, false, not, false≢true}
 use mathlib.Core.List.{List, [], ◌∷◌, ◌++◌}
@@ -13,7 +15,8 @@ use Rattle.machine.specs.Machine.{Out, ok, refused, run}
 use Rattle.cursor.specs.Rows.{node_frame}
 use Rattle.cursor.specs.Leaves.{number}
 use Rattle.vlq.specs.Vlq.{in_bytes}
-use Rattle.cursor.specs.declared.FilePlace.{FilePlace}
+use Rattle.refusals.specs.Reasons.{number_of}
+use Rattle.refusals.specs.declared.Refusal.{Refusal}
 use Rattle.cursor.proofs.Leaves.{number-inside}
 use Rattle.vlq.proofs.Least.{in_bytes_length}
 use Rattle.metadata.specs.Tables.{limits}
@@ -22,8 +25,8 @@ use Rattle.room.proofs.Sets.{sets-front, padded-behind}
 use Rattle.file.specs.Reading.{Reading, rows, refusal, read_file, read_of, node_table, item_table}
 use Rattle.file.specs.Asking.{ask, written_nodes, written_items}
 use Rattle.file.specs.declared.Summary.{Summary}
-use Rattle.file.specs.declared.Read.{Read}
-use Rattle.file.specs.declared.Read.TheVariants as read
+use Rattle.room.specs.Told.{told}
+use Rattle.file.proofs.Rows.{reads-refused}
 use Rattle.mend.specs.Fields.{width, Fields}
 use Rattle.mend.specs.Mend.{value_of, number_at, with_field, set_to, both_lines, mended, fitting, accepted, mend}
 use Rattle.mend.specs.Told.{FieldsIn, sound_for, setting, Sizes, Set, Ends}
@@ -120,26 +123,22 @@ module _ (f : List ℕ) (w : Fields) (b : ℕ) {t u : List ℕ} {room space : �
 
 -- ---- a file that is refused as it is
 
-module _ (f : List ℕ) (nsize isize : ℕ) (no : accepted (read_file (limits nsize isize) (mended f)) ≡ false) {r : Read} (e : r ≡ read_of (read_file (limits nsize isize) f)) where
-  pub ends_refused : {n : ℕ} {p : FilePlace} → r ≡ read.Refused n p → {t u : List ℕ} → t ≡ node_table nsize (read_file (limits nsize isize) f) →
+module _ (f : List ℕ) (nsize isize : ℕ) (no : accepted (read_file (limits nsize isize) (mended f)) ≡ false) {r : std.Result Summary Refusal}
+    (e : told r ≡ read_of (read_file (limits nsize isize) f)) where
+  pub ends_refused : {q : Refusal} → r ≡ Err q → {t u : List ℕ} → t ≡ node_table nsize (read_file (limits nsize isize) f) →
       u ≡ item_table isize (read_file (limits nsize isize) f)
-      → {room space : ℕ} {c l : List ℕ} → c ≡ replicate room 0 → l ≡ replicate space 0 → Ends f nsize isize room space (bad n p.0) t u c l
-  unfolding read_of node_table item_table written_nodes written_items kept mend ask
-  ends_refused {n} {p} k {t} {u} a b {room} {space} {c} {l} x y = by (read_file (limits nsize isize) f) refl (sym e ∙ k) a b
-    where
-      by : (o : Reading) → read_file (limits nsize isize) f ≡ o → read_of o ≡ read.Refused n p → t ≡ node_table nsize o → u ≡ item_table isize o →
-          Ends f nsize isize room space (bad n p.0) t u c l
-      by (rows h ns is) z q a b = let i : ◌≡◌ {A = ℕ} 0 1 = cc in absurd (omega arith)
-      by (refusal m j) z q a b =
-          let v : m ≡ n = cc in let i : j ≡ p.0 = cc in
-          let s : mend (limits nsize isize) room space f ≡ bad m j = rw (no, z) refl in
-          record { answer = rw (s, v, i) refl; nodes = rw s a; items = rw s b; copy = rw s x; lines = rw s y }
+      → {room space : ℕ} {c l : List ℕ} → c ≡ replicate room 0 → l ≡ replicate space 0 → Ends f nsize isize room space (bad (number_of q.0) q.1) t u c l
+  unfolding node_table item_table written_nodes written_items kept mend ask
+  ends_refused {q} k a b {room} {space} x y =
+      let z = reads-refused (read_file (limits nsize isize) f) e k in
+      let s : mend (limits nsize isize) room space f ≡ bad (number_of q.0) q.1 = rw (no, z) refl in
+      record { answer = rw s refl; nodes = rw s (rw z at a); items = rw s (rw z at b); copy = rw s x; lines = rw s y }
 
-  pub never_read : {s : Summary} → r ≡ read.Is s → {X : Type 0} → X
+  pub never_read : {s : Summary} → r ≡ Ok s → {X : Type 0} → X
   unfolding read_of
-  never_read {s} k {X} = by (read_file (limits nsize isize) f) refl (sym e ∙ k)
+  never_read {s} k {X} = by (read_file (limits nsize isize) f) refl (ap told (sym k) ∙ e)
     where
-      by : (o : Reading) → read_file (limits nsize isize) f ≡ o → read_of o ≡ read.Is s → X
+      by : (o : Reading) → read_file (limits nsize isize) f ≡ o → good s ≡ read_of o → X
       by (rows h ns is) z q = absurd (false≢true (sym no ∙ ap accepted (still (limits nsize isize) f z)))
       by (refusal m j) z q = let i : ◌≡◌ {A = ℕ} 0 1 = cc in absurd (omega arith)
 

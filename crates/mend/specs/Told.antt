@@ -1,7 +1,10 @@
 -- What the code's answers say, and what the call leaves: each is one line of its contract.
 -- Assumes nothing.
-use Rattle.std.specs.Prelude.{◌≡◌, Bool, ◌&&◌, List, [], ◌∷◌, ℕ, ◌+◌, ◌^◌, ◌≤◌, ◌<◌, ltb, leb, length, replicate}
+use Rattle.std.specs.Prelude.{◌≡◌, Ok, Err, Bool, ◌&&◌, List, [], ◌∷◌, ℕ, ◌+◌, ◌^◌, ◌≤◌, ◌<◌, ltb, leb, length, replicate}
+use Rattle.std.specs.Prelude as std
 use Rattle.machine.specs.Machine.{Out, ok, refused}
+use Rattle.refusals.specs.Reasons.{number_of}
+use Rattle.refusals.specs.declared.Refusal.{Refusal}
 use Rattle.header.specs.Types.{types_of, most_types}
 use Rattle.header.specs.Told.{edition_of}
 use Rattle.room.specs.Room.{Result, good, bad, kept}
@@ -12,32 +15,26 @@ use Rattle.mend.specs.Fields.{width}
 use Rattle.mend.specs.Mend.{Mended, set_to, both_lines, fitting, mend}
 use Rattle.mend.specs.declared.Field.{Field}
 use Rattle.mend.specs.declared.Fields.{Fields}
-use Rattle.mend.specs.declared.FieldRead.{FieldRead}
-use Rattle.mend.specs.declared.FieldRead.TheVariants as one
-use Rattle.mend.specs.declared.FieldsRead.{FieldsRead}
-use Rattle.mend.specs.declared.FieldsRead.TheVariants as all
-use Rattle.mend.specs.declared.Mending.{Mending}
-use Rattle.mend.specs.declared.Mending.TheVariants as mending
 
 -- ---- the fields, with the types as their table has them
 
 abbrev pub field_of : Field → spec.Field
 field_of x = record { place = x.place.0; value = x.value; end = x.end.0 }
 
-abbrev pub field_told : FieldRead → Out spec.Field
-field_told (one.Is x) = ok (field_of x) x.end.0
-field_told (one.Refused n p) = refused n p.0
+abbrev pub field_told : std.Result Field Refusal → Out spec.Field
+field_told (Ok x) = ok (field_of x) x.end.0
+field_told (Err r) = refused (number_of r.0) r.1
 
 abbrev pub fields_of : Fields → List ℕ → spec.Fields
 fields_of w ws = record { version = w.version; edition = edition_of w.edition; length = field_of w.length; types = types_of w.types ws; start = w.start; last = field_of w.last }
 
-abbrev pub fields_told : FieldsRead → List ℕ → Out spec.Fields
-fields_told (all.Is w) ws = ok (fields_of w ws) w.last.end.0
-fields_told (all.Refused n p) ws = refused n p.0
+abbrev pub fields_told : std.Result Fields Refusal → List ℕ → Out spec.Fields
+fields_told (Ok w) ws = ok (fields_of w ws) w.last.end.0
+fields_told (Err r) ws = refused (number_of r.0) r.1
 
-abbrev pub FewTypes : FieldsRead → Type 0
-FewTypes (all.Is w) = w.types ≤ most_types
-FewTypes (all.Refused n p) = Unit {0}
+abbrev pub FewTypes : std.Result Fields Refusal → Type 0
+FewTypes (Ok w) = w.types ≤ most_types
+FewTypes (Err r) = Unit {0}
 
 -- What the code knows of the fields: each has one to four bytes, and they lie apart in a file of `size` bytes.
 pub record FieldsIn (w : spec.Fields) (size : ℕ) : Type 0 where
@@ -65,9 +62,9 @@ pub record Sizes : Type 0 where
 abbrev pub size_words : Sizes → List ℕ
 size_words s = s.copy ∷ s.lines ∷ []
 
-abbrev pub told : Mending → Result Sizes
-told (mending.Is a b) = good (record { copy = a; lines = b })
-told (mending.Refused n p) = bad n p
+abbrev pub told : std.Result (ℕ × ℕ) Refusal → Result Sizes
+told (Ok (a, b)) = good (record { copy = a; lines = b })
+told (Err r) = bad (number_of r.0) r.1
 
 abbrev pub sizes_of : Result Mended → Result Sizes
 sizes_of (good m) = good (record { copy = length m.copy; lines = length m.lines })

@@ -1,7 +1,7 @@
 -- Mending, computed in one test: the worked file with other values in its two fields, as it is, cut short and with a byte more; fields of more than one byte; values that
 -- their bytes cannot hold; and the refusals' order.
 -- Assumes nothing.
-use Rattle.std.specs.Prelude.{◌≡◌, refl, List, [], ◌∷◌, ◌++◌, ℕ, length, take, replicate}
+use Rattle.std.specs.Prelude.{◌≡◌, refl, List, [], ◌∷◌, ◌++◌, ℕ, take, replicate}
 use Rattle.machine.specs.Machine.{run, trace, rows_of, ◌>>=◌, ◌>>◌, when◌then◌else◌, place, skip, check, turns, many, times}
 use Rattle.cursor.specs.Leaves.{next, digits, number, block, manufacturer, guid}
 use Rattle.vlq.specs.Vlq as vlq

@@ -13,9 +13,9 @@ ghost use Rattle.file.specs.Reading.{read_file};
 ghost use Rattle.mend.specs.Mend.{number_at, tabbed, line, both_lines, set_to, mended, accepted};
 ghost use Rattle.mend.specs.Told.{field_of, field_told, fields_of, fields_told, FewTypes, FieldsIn, sound_for, told, sizes_of, asked, nodes_after, items_after, copy_after, lines_after, Ends, Set};
 
-use cursor::{Cursor, FilePlace, Numbered};
-use file::Read;
-use header::{Edition, EditionResult, Extent, Header, Typed};
+use cursor::{Cursor, FilePlace};
+use header::{Edition, Extent, Header};
+use refusals::{Reason, Refusal};
 
 // A number of the header, with its place and the place after it.
 #[derive(Clone, Copy)]
@@ -23,13 +23,6 @@ pub struct Field {
     pub place: FilePlace,
     pub value: u64,
     pub end: FilePlace,
-}
-
-// A field; or the refusal of its number.
-#[derive(Clone, Copy)]
-pub enum FieldRead {
-    Is(Field),
-    Refused(u64, FilePlace),
 }
 
 // What the header's fields say: `length` is FileLength, `start` TreeStart, `last` TreeEnd. None of them is judged.
@@ -43,87 +36,50 @@ pub struct Fields {
     pub last: Field,
 }
 
-// All of them; or the first refusal on the way.
-#[derive(Clone, Copy)]
-pub enum FieldsRead {
-    Is(Fields),
-    Refused(u64, FilePlace),
-}
-
-// The number of bytes of the copy, and of the lines; or the refusal's number and place.
-#[derive(Clone, Copy)]
-pub enum Mending {
-    Is(usize, usize),
-    Refused(u64, usize),
-}
-
 // The number at the cursor, with its place and end.
-fn read_field(c: Cursor, file: &[u8]) -> FieldRead
+#[tactic(auto, using(header::proofs::Reading::reading), unfolding(crate::specs::Fields::number_field))]
+fn read_field(c: Cursor, file: &[u8]) -> Result<Field, Refusal>
     ensures { field_told result ≡ run (number_field (length file.now)) file.now c.at.0 }
 {
     let place = c.at;
-    match c.number(file, FilePlace(file.len()), cursor::CUT_SHORT) {
-        Numbered::Refused(n, p) => FieldRead::Refused(n, p),
-        Numbered::Is(value, d) => {
-            let end = d.at;
-            let is = Field { place, value, end };
-            FieldRead::Is(is)
-        }
-    }
+    let (value, d) = c.number(file, FilePlace(file.len()), Reason::CutShort)?;
+    let end = d.at;
+    Ok(Field { place, value, end })
 }
 
 // Reads the header's fields, and the declared types into the lent table; FileLength and the tree's extent are not judged.
-fn read_fields(file: &[u8], types: &mut [u64]) -> FieldsRead
+#[tactic(auto, using(header::proofs::Reading::reading), unfolding(crate::specs::Fields::fields))]
+fn read_fields(file: &[u8], types: &mut [u64]) -> Result<Fields, Refusal>
     requires { 64 ≤ length types.old }
     ensures answer { fields_told result types.new ≡ run (fields (length file.now)) file.now 0 }
     ensures listed { FewTypes result }
 {
-    match header::read_opening(file) {
-        Numbered::Refused(n, p) => FieldsRead::Refused(n, p),
-        Numbered::Is(version, c) => match header::read_edition(c, file, version) {
-            EditionResult::Refused(n, p) => FieldsRead::Refused(n, p),
-            EditionResult::Is(edition, d) => match read_field(d, file) {
-                FieldRead::Refused(n, p) => FieldsRead::Refused(n, p),
-                FieldRead::Is(length) => {
-                    let after = length.end;
-                    let e = Cursor { at: after };
-                    match header::read_types(e, file, types) {
-                        Typed::Refused(n, p) => FieldsRead::Refused(n, p),
-                        Typed::Count(count, g) => match read_field(g, file) {
-                            FieldRead::Refused(n, p) => FieldsRead::Refused(n, p),
-                            FieldRead::Is(start) => {
-                                let after = start.end;
-                                let k = Cursor { at: after };
-                                match read_field(k, file) {
-                                    FieldRead::Refused(n, p) => FieldsRead::Refused(n, p),
-                                    FieldRead::Is(last) => {
-                                        let is = Fields {
-                                            version,
-                                            edition,
-                                            length,
-                                            types: count,
-                                            start: start.value,
-                                            last,
-                                        };
-                                        FieldsRead::Is(is)
-                                    }
-                                }
-                            }
-                        },
-                    }
-                }
-            },
-        },
-    }
+    let (version, c) = header::read_opening(file)?;
+    let (edition, d) = header::read_edition(c, file, version)?;
+    let length = read_field(d, file)?;
+    let e = Cursor { at: length.end };
+    let (count, g) = header::read_types(e, file, types)?;
+    let start = read_field(g, file)?;
+    let k = Cursor { at: start.end };
+    let last = read_field(k, file)?;
+    Ok(Fields {
+        version,
+        edition,
+        length,
+        types: count,
+        start: start.value,
+        last,
+    })
 }
 
 // The number at a place of the file; 0 where there is none.
+#[tactic(auto, using(header::proofs::Reading::reading), unfolding(crate::specs::Mend::number_at))]
 fn number_at(file: &[u8], at: usize) -> u64
     ensures { result ≡ number_at file.now at }
 {
-    match (Cursor { at: FilePlace(at) }).number(file, FilePlace(file.len()), cursor::CUT_SHORT) {
-        Numbered::Refused(_, p) => 0,
-        Numbered::Is(n, _) => n,
+    match (Cursor { at: FilePlace(at) }).number(file, FilePlace(file.len()), Reason::CutShort) {
+        Ok((n, _)) => n,
+        Err(_) => 0,
     }
 }
 
@@ -222,7 +178,12 @@ fn is_sound(size: usize, w: Fields, last: usize) -> bool
 }
 
 // No room for the copy or the lines: both tables and both buffers are cleared.
-fn no_room(nodes: &mut [u64], items: &mut [u64], copy: &mut [u8], lines: &mut [u8]) -> Mending
+fn no_room(
+    nodes: &mut [u64],
+    items: &mut [u64],
+    copy: &mut [u8],
+    lines: &mut [u8],
+) -> Result<(usize, usize), Refusal>
     ensures answer { told result ≡ bad 22 0 }
     ensures nodes { nodes.new ≡ replicate (length nodes.old) 0 }
     ensures items { items.new ≡ replicate (length items.old) 0 }
@@ -230,9 +191,9 @@ fn no_room(nodes: &mut [u64], items: &mut [u64], copy: &mut [u8], lines: &mut [u
     ensures lines { lines.new ≡ replicate (length lines.old) 0 }
 {
     rows::clear_all(nodes, items);
-    room::clear_bytes(copy);
-    room::clear_bytes(lines);
-    Mending::Refused(cursor::NO_ROOM, 0)
+    copy.fill(0);
+    lines.fill(0);
+    Err(Refusal(Reason::NoRoom, 0))
 }
 
 // Writes the file into the buffer, both fields set, and zeros behind it.
@@ -240,10 +201,10 @@ fn put_copy(copy: &mut [u8], file: &[u8], w: Fields, last: usize)
     requires { ((ws : List ℕ) → FieldsIn (fields_of w ws) (length file.now)) × (length file.now ≤ length copy.old) }
     ensures { (ws : List ℕ) → copy.new ≡ padded (length copy.old) (set_to file.now (fields_of w ws) (length file.now) last) }
 {
-    room::store_bytes(copy, 0, file);
+    room::store(copy, 0, file);
     set_field(copy, w.length, file.len());
     set_field(copy, w.last, last);
-    room::clear_bytes_from(copy, file.len());
+    room::fill_from(copy, file.len(), 0);
 }
 
 // Writes the copy, both fields set, and the lines; where the buffers have no room for them, tables and buffers are cleared.
@@ -255,7 +216,7 @@ fn write_mended(
     lines: &mut [u8],
     w: Fields,
     last: usize,
-) -> Mending
+) -> Result<(usize, usize), Refusal>
     requires { (ws : List ℕ) → FieldsIn (fields_of w ws) (length file.now) }
     ensures { (ws : List ℕ) → Set file.now (fields_of w ws) last (told result) nodes.old items.old (length copy.old) (length lines.old)
         nodes.new items.new copy.new lines.new }
@@ -268,8 +229,8 @@ fn write_mended(
         return no_room(nodes, items, copy, lines);
     }
     put_copy(copy, file, w, last);
-    room::clear_bytes_from(lines, n);
-    Mending::Is(file.len(), n)
+    room::fill_from(lines, n, 0);
+    Ok((file.len(), n))
 }
 
 // The refusal of the file as it is, which no values of the two mend.
@@ -279,15 +240,15 @@ fn refuse_unchanged(
     items: &mut [u64],
     copy: &mut [u8],
     lines: &mut [u8],
-) -> Mending
+) -> Result<(usize, usize), Refusal>
     requires { accepted (read_file (limits (length nodes.old) (length items.old)) (mended file.now)) ≡ false }
     ensures { Ends file.now (length nodes.old) (length items.old) (length copy.old) (length lines.old) (told result) nodes.new items.new copy.new lines.new }
 {
-    room::clear_bytes(copy);
-    room::clear_bytes(lines);
+    copy.fill(0);
+    lines.fill(0);
     match file::read_file(file, nodes, items) {
-        Read::Refused(n, p) => Mending::Refused(n, p.0),
-        Read::Is(s) => Mending::Refused(s.version, 0),
+        Ok(_) => unreachable!(),
+        Err(refusal) => Err(refusal),
     }
 }
 
@@ -300,7 +261,7 @@ pub fn mend(
     items: &mut [u64],
     copy: &mut [u8],
     lines: &mut [u8],
-) -> Mending
+) -> Result<(usize, usize), Refusal>
     ensures answer { told result ≡ sizes_of (asked nodes.old items.old copy.old lines.old file.now) }
     ensures nodes { nodes.new ≡ nodes_after nodes.old items.old copy.old lines.old file.now }
     ensures items { items.new ≡ items_after nodes.old items.old copy.old lines.old file.now }
@@ -308,31 +269,26 @@ pub fn mend(
     ensures lines { lines.new ≡ lines_after nodes.old items.old copy.old lines.old file.now }
 {
     let mut types = [0u64; header::MOST_TYPES * 2];
-    match read_fields(file, &mut types) {
-        FieldsRead::Refused(n, p) => refuse_unchanged(file, nodes, items, copy, lines),
-        FieldsRead::Is(w) => {
-            let last = last_of(file, w.start);
-            if !is_sound(file.len(), w, last) {
-                return refuse_unchanged(file, nodes, items, copy, lines);
-            }
-            let field = w.last;
-            let end = field.end;
-            let extent = Extent {
-                start: FilePlace(w.start as usize),
-                last: FilePlace(last),
-                end,
-            };
-            let edition = w.edition;
-            let h = Header {
-                version: w.version,
-                edition,
-                types: w.types,
-                extent,
-            };
-            match file::read_behind(file, &types, nodes, items, h) {
-                Read::Refused(m, q) => refuse_unchanged(file, nodes, items, copy, lines),
-                Read::Is(s) => write_mended(file, nodes, items, copy, lines, w, last),
-            }
-        }
+    let Ok(w) = read_fields(file, &mut types) else {
+        return refuse_unchanged(file, nodes, items, copy, lines);
+    };
+    let last = last_of(file, w.start);
+    if !is_sound(file.len(), w, last) {
+        return refuse_unchanged(file, nodes, items, copy, lines);
+    }
+    let extent = Extent {
+        start: FilePlace(w.start as usize),
+        last: FilePlace(last),
+        end: w.last.end,
+    };
+    let h = Header {
+        version: w.version,
+        edition: w.edition,
+        types: w.types,
+        extent,
+    };
+    match file::read_behind(file, &types, nodes, items, h) {
+        Ok(_) => write_mended(file, nodes, items, copy, lines, w, last),
+        Err(_) => refuse_unchanged(file, nodes, items, copy, lines),
     }
 }

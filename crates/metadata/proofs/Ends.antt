@@ -6,7 +6,6 @@ use Prim.Native.Nat.{ℕ, ◌+◌, ◌-◌, ◌≤◌, ◌<◌}
 use native.Mathlib.Omega.{arith}
 use lib.Dec.{T}
 use Rattle.cursor.specs.Rows.{Part, node_row, item_row, plain, Plain, language, name, uri, has_inline, inline_size}
-use Rattle.machine.specs.Machine.{times, many}
 use Rattle.machine.proofs.Wp.{Wp, Rule, Free, wp_after, wp_weaken, wp_ret, wp_refuse, wp_if, wp_check, wp_place, wp_skip, wp_many, wp_times}
 use Rattle.cursor.proofs.Leaves.{number-on, block_on}
 use Rattle.header.specs.Types.{Known, known, unknown, format_of}

@@ -1,5 +1,6 @@
 pub mod Uses
 pub mod Quiet
+pub mod Filling
 pub mod Gives
 pub mod Ends
 pub mod Ways

@@ -1,12 +1,15 @@
 -- What a call is given, and what the code's answers say, with the tables that the call left.
 -- Assumes nothing.
-use Rattle.std.specs.Prelude.{◌≡◌, List, ℕ, ◌+◌, ◌*◌, ◌≤◌, length}
+use Rattle.std.specs.Prelude.{◌≡◌, Result, Ok, Err, Option, Some, None, List, ℕ, ◌+◌, ◌*◌, ◌≤◌, length}
 use Rattle.machine.specs.Machine.{Out, ok, refused, run, exec}
 use Rattle.cursor.specs.Rows.{P, meta_frame}
 use Rattle.cursor.specs.Refusals.{cut_short}
 use Rattle.cursor.specs.Leaves.{block}
 use Rattle.cursor.specs.Leaves as leaves
-use Rattle.cursor.specs.Told.{Readable}
+use Rattle.cursor.specs.Told.{Readable, read_told}
+use Rattle.cursor.specs.declared.Cursor.{Cursor}
+use Rattle.refusals.specs.Reasons.{number_of}
+use Rattle.refusals.specs.declared.Refusal.{Refusal}
 use Rattle.header.specs.Types.{types_of}
 use Rattle.metadata.specs.Tables.{State, state, put}
 use Rattle.rows.specs.Rows.{item_width}
@@ -18,18 +21,6 @@ use Rattle.metadata.specs.declared.Field.{Field}
 use Rattle.metadata.specs.declared.Contents.{Contents}
 use Rattle.metadata.specs.declared.Contents.TheVariants.{Universal}
 use Rattle.metadata.specs.declared.MetaItem.{MetaItem}
-use Rattle.metadata.specs.declared.FieldResult.{FieldResult}
-use Rattle.metadata.specs.declared.FieldResult.TheVariants as fielded
-use Rattle.metadata.specs.declared.Contained.{Contained}
-use Rattle.metadata.specs.declared.Contained.TheVariants as contained
-use Rattle.metadata.specs.declared.ItemResult.{ItemResult}
-use Rattle.metadata.specs.declared.ItemResult.TheVariants as itemed
-use Rattle.metadata.specs.declared.Common.{Common}
-use Rattle.metadata.specs.declared.Common.TheVariants as common
-use Rattle.metadata.specs.declared.RowsResult.{RowsResult}
-use Rattle.metadata.specs.declared.RowsResult.TheVariants as rows
-use Rattle.metadata.specs.declared.Walked.{Walked}
-use Rattle.metadata.specs.declared.Walked.TheVariants as all
 
 -- the context of a scope, with the types as their table has them, in a file of `size` bytes
 abbrev pub context_of : Scope → List ℕ → ℕ → Context
@@ -47,17 +38,14 @@ Room scope file types items end m = Readable end file × (scope.types * 2 ≤ le
 
 -- ---- answers
 
-abbrev pub field_told : FieldResult → Out Field
-field_told (fielded.Is f c) = ok f c.at.0
-field_told (fielded.Refused n p) = refused n p.0
+abbrev pub field_told : Result (Field × Cursor) Refusal → Out Field
+field_told = read_told
 
-abbrev pub contents_told : Contained → Out Contents
-contents_told (contained.Is k c) = ok k c.at.0
-contents_told (contained.Refused n p) = refused n p.0
+abbrev pub contents_told : Result (Contents × Cursor) Refusal → Out Contents
+contents_told = read_told
 
-abbrev pub item_told : ItemResult → Out MetaItem
-item_told (itemed.Is i c) = ok i c.at.0
-item_told (itemed.Refused n p) = refused n p.0
+abbrev pub item_told : Result (MetaItem × Cursor) Refusal → Out MetaItem
+item_told = read_told
 
 -- An item in the common form, from `at` on in metadata that ends at `end`: what the definitions read there, field by field.
 pub record Reads (f : List ℕ) (end at : ℕ) (is : MetaItem) (size format : ℕ) : Type 0 where
@@ -67,22 +55,22 @@ pub record Reads (f : List ℕ) (end at : ℕ) (is : MetaItem) (size format : �
   pub covers : run (block meta_frame cut_short end) f (at + 3) ≡ ok size (at + 4)
   pub coded : run (leaves.number meta_frame cut_short (at + 4 + size)) f (at + 4) ≡ ok format (at + 5)
 
-abbrev pub CommonTold : Common → List ℕ → (end at : ℕ) → Type 0
-CommonTold (common.Is is size format) f end at = Reads f end at is size format
-CommonTold common.Other f end at = Unit {0}
+abbrev pub CommonTold : Option (MetaItem × ℕ × ℕ) → List ℕ → (end at : ℕ) → Type 0
+CommonTold (Some (is, size, format)) f end at = Reads f end at is size format
+CommonTold None f end at = Unit {0}
 
--- ---- a call that fills tables: a refusal says nothing of them
+-- ---- a call that fills tables: the rows made by now, and the cursor after what was read. A refusal says nothing of the tables
 
-abbrev pub told : Walked → List ℕ → List ℕ → Out (Made × State)
-told (all.Done m c) t u = ok (m, state t u m) c.at.0
-told (all.Refused n p) t u = refused n p.0
+abbrev pub told : Result (Made × Cursor) Refusal → List ℕ → List ℕ → Out (Made × State)
+told (Ok (m, c)) t u = ok (m, state t u m) c.at.0
+told (Err r) t u = refused (number_of r.0) r.1
 
-abbrev pub Fits : Limits → Walked → Type 0
-Fits lim (all.Done m c) = (m.nodes ≤ lim.nodes) × (m.items ≤ lim.items)
-Fits lim (all.Refused n p) = Unit {0}
+abbrev pub Fits : Limits → Result (Made × Cursor) Refusal → Type 0
+Fits lim (Ok (m, c)) = (m.nodes ≤ lim.nodes) × (m.items ≤ lim.items)
+Fits lim (Err r) = Unit {0}
 
 -- what a call answered and left in the tables is o, and no more rows are made than there is room for
-pub record Gives (lim : Limits) (r : Walked) (t u : List ℕ) (o : Out (Made × State)) : Type 0 where
+pub record Gives (lim : Limits) (r : Result (Made × Cursor) Refusal) (t u : List ℕ) (o : Out (Made × State)) : Type 0 where
   pub answer : told r t u ≡ o
   pub fits : Fits lim r
 
@@ -92,13 +80,13 @@ pub record Gives (lim : Limits) (r : Walked) (t u : List ℕ) (o : Out (Made × 
 abbrev pub counts : ℕ → ℕ → Made
 counts node n = record { nodes = node; items = n }
 
-abbrev pub walked : ℕ → RowsResult → Walked
-walked node (rows.Done n c) = all.Done (counts node n) c
-walked node (rows.Refused n p) = all.Refused n p
+abbrev pub walked : ℕ → Result (ℕ × Cursor) Refusal → Result (Made × Cursor) Refusal
+walked node (Ok (n, c)) = Ok (counts node n, c)
+walked node (Err r) = Err r
 
 -- what a call answered that reads item rows of node row `node`, `rows` of them made before it, from place `at` on, and the item table before and after it: what the
 -- program p gives from there, in the context of the call, over the rows made so far
-abbrev pub Makes : Scope → (node rows : ℕ) → (p : Context → Made → P Made) → (file types before after : List ℕ) → (at : ℕ) → RowsResult → Type 0
+abbrev pub Makes : Scope → (node rows : ℕ) → (p : Context → Made → P Made) → (file types before after : List ℕ) → (at : ℕ) → Result (ℕ × Cursor) Refusal → Type 0
 Makes scope node rows p file types before after at r =
     (t : List ℕ) → Gives scope.limits (walked node r) t after
     (exec put (p (context_of scope types (length file)) (counts node rows)) file at (state t before (counts node rows)))

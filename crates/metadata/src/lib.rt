@@ -7,8 +7,8 @@ ghost use Rattle.cursor.specs.Told.{Readable};
 ghost use Rattle.metadata.specs.Metadata.{field, contents, item_frame, row_of, universal, version, rows_for, item, meta_items, metadata};
 ghost use Rattle.metadata.specs.Told.{ItemRoom, Room, counts, field_told, contents_told, item_told, CommonTold, Makes};
 
-use cursor::{Cursor, FilePlace, Item, Numbered};
-use header::Found;
+use cursor::{Cursor, FilePlace, Item};
+use refusals::{Reason, Refusal};
 
 // The rows that there is room for.
 #[derive(Clone, Copy)]
@@ -60,97 +60,42 @@ pub struct Label {
     pub field: Field,
 }
 
-#[derive(Clone, Copy)]
-pub enum FieldResult {
-    Is(Field, Cursor),
-    Refused(u64, FilePlace),
-}
-
-#[derive(Clone, Copy)]
-pub enum Contained {
-    Is(Contents, Cursor),
-    Refused(u64, FilePlace),
-}
-
-#[derive(Clone, Copy)]
-pub enum ItemResult {
-    Is(MetaItem, Cursor),
-    Refused(u64, FilePlace),
-}
-
-// An item in the common form, the length of its content, and its string format. Any other item is `Other`.
-#[derive(Clone, Copy)]
-pub enum Common {
-    Is(MetaItem, u64, u64),
-    Other,
-}
-
-// The item rows made by now, and the cursor after what was read: metadata makes no other rows. A function that answers this takes, as `rows`, the
-// number of item rows that are there.
-#[derive(Clone, Copy)]
-pub enum RowsResult {
-    Done(usize, Cursor),
-    Refused(u64, FilePlace),
-}
-
-// The rows made by now, and the cursor after what was read.
-#[derive(Clone, Copy)]
-pub enum Walked {
-    Done(Made, Cursor),
-    Refused(u64, FilePlace),
-}
-
 // The field here: 0 and a standard number, or an XString, which is a custom name.
-fn read_field(c: Cursor, file: &[u8], end: FilePlace) -> FieldResult
+#[tactic(auto, using(header::proofs::Reading::reading), unfolding(crate::specs::Metadata::field))]
+fn read_field(c: Cursor, file: &[u8], end: FilePlace) -> Result<(Field, Cursor), Refusal>
     requires { Readable end.0 file.now }
     ensures { field_told result ≡ run (field end.0) file.now c.at.0 }
 {
-    match c.block(file, end, cursor::CUT_SHORT) {
-        Numbered::Refused(n, p) => FieldResult::Refused(n, p),
-        Numbered::Is(size, d) => {
-            if size != 0 {
-                let at = d.at;
-                return FieldResult::Is(Field::Name(at, size), d.on(size));
-            }
-            match d.number(file, end, cursor::CUT_SHORT) {
-                Numbered::Refused(n, p) => FieldResult::Refused(n, p),
-                Numbered::Is(k, e) => FieldResult::Is(Field::Standard(k), e),
-            }
-        }
+    let (size, d) = c.block(file, end, Reason::CutShort)?;
+    if size != 0 {
+        return Ok((Field::Name(d.at, size), d.on(size)));
     }
+    let (k, e) = d.number(file, end, Reason::CutShort)?;
+    Ok((Field::Standard(k), e))
 }
 
 // The contents here: 0 for universal, or the number of versions.
-fn read_contents(c: Cursor, file: &[u8], end: FilePlace) -> Contained
+#[tactic(auto, using(header::proofs::Reading::reading), unfolding(crate::specs::Metadata::contents))]
+fn read_contents(c: Cursor, file: &[u8], end: FilePlace) -> Result<(Contents, Cursor), Refusal>
     requires { end.0 ≤ length file.now }
     ensures { contents_told result ≡ run (contents end.0) file.now c.at.0 }
 {
-    match c.number(file, end, cursor::CUT_SHORT) {
-        Numbered::Refused(n, p) => Contained::Refused(n, p),
-        Numbered::Is(n, d) => {
-            if n == 0 {
-                return Contained::Is(Contents::Universal, d);
-            }
-            Contained::Is(Contents::Versions(n), d)
-        }
+    let (n, d) = c.number(file, end, Reason::CutShort)?;
+    if n == 0 {
+        return Ok((Contents::Universal, d));
     }
+    Ok((Contents::Versions(n), d))
 }
 
 // An item's field and contents.
-fn read_frame(c: Cursor, file: &[u8], end: FilePlace) -> ItemResult
+#[tactic(auto, using(header::proofs::Reading::reading), unfolding(crate::specs::Metadata::item_frame))]
+fn read_frame(c: Cursor, file: &[u8], end: FilePlace) -> Result<(MetaItem, Cursor), Refusal>
     requires { Readable end.0 file.now }
     ensures { item_told result ≡ run (item_frame end.0) file.now c.at.0 }
 {
-    match read_field(c, file, end) {
-        FieldResult::Refused(n, p) => ItemResult::Refused(n, p),
-        FieldResult::Is(field, d) => match read_contents(d, file, end) {
-            Contained::Refused(n, p) => ItemResult::Refused(n, p),
-            Contained::Is(contents, e) => {
-                let is = MetaItem { field, contents };
-                ItemResult::Is(is, e)
-            }
-        },
-    }
+    let (field, d) = read_field(c, file, end)?;
+    let (contents, e) = read_contents(d, file, end)?;
+    Ok((MetaItem { field, contents }, e))
 }
 
 // The row of a content of the labelled item.
@@ -164,34 +109,27 @@ fn row_of(
 ) -> Item
     ensures { result ≡ row_of l version declared format place.0 size }
 {
-    let field = l.field;
-    let mut row = Item {
+    let (kind, field, name_length) = match l.field {
+        Field::Standard(k) => (0, k, 0),
+        Field::Name(at, n) => (1, at.0 as u64, n),
+    };
+    Item {
         node: l.node as u64,
         item: l.item as u64,
-        kind: 0,
-        field: 0,
-        name_length: 0,
+        kind,
+        field,
+        name_length,
         version: version as u64,
         declared,
         format,
         place: place.0 as u64,
         size: size as u64,
-    };
-    match field {
-        Field::Standard(k) => {
-            row.field = k;
-            row
-        }
-        Field::Name(at, n) => {
-            row.kind = 1;
-            row.field = at.0 as u64;
-            row.name_length = n;
-            row
-        }
     }
 }
 
-// A universal content: a length of at least 1, which covers string format and data.
+// A universal content: a length of at least 1, which covers string format and data. Metadata makes item rows alone: this function and those below are
+// given, as `rows`, the number of item rows that are there, and answer how many there are by then, and the cursor after what was read.
+#[tactic(auto, using(crate::proofs::Filling::filling), unfolding(crate::specs::Metadata::universal))]
 fn read_universal(
     c: Cursor,
     file: &[u8],
@@ -200,37 +138,29 @@ fn read_universal(
     l: Label,
     end: FilePlace,
     rows: usize,
-) -> RowsResult
+) -> Result<(usize, Cursor), Refusal>
     requires { Readable end.0 file.now × ItemRoom scope items.old (counts l.node rows) }
     ensures { (ws : List ℕ) → Makes scope l.node rows (λ x. universal x l end.0) file.now ws items.old items.new c.at.0 result }
 {
     let place = c.at;
     let limits = scope.limits;
     if limits.items <= rows {
-        return RowsResult::Refused(cursor::NO_ROW_LEFT, place);
+        return Err(Refusal(Reason::NoRowLeft, place.0));
     }
-    match c.block(file, end, cursor::CUT_SHORT) {
-        Numbered::Refused(n, p) => RowsResult::Refused(n, p),
-        Numbered::Is(size, d) => {
-            if size == 0 {
-                return RowsResult::Refused(cursor::BAD_CONTENTS, place);
-            }
-            let after = d.on(size);
-            let stop = after.at;
-            match d.number(file, stop, cursor::CUT_SHORT) {
-                Numbered::Refused(n, p) => RowsResult::Refused(n, p),
-                Numbered::Is(format, e) => {
-                    let data = e.at;
-                    let made = rows + 1;
-                    rows::put_item(items, rows, row_of(l, 0, 0, format, data, stop.0 - data.0));
-                    RowsResult::Done(made, after)
-                }
-            }
-        }
+    let (size, d) = c.block(file, end, Reason::CutShort)?;
+    if size == 0 {
+        return Err(Refusal(Reason::BadContents, place.0));
     }
+    let after = d.on(size);
+    let stop = after.at;
+    let (format, e) = d.number(file, stop, Reason::CutShort)?;
+    let data = e.at;
+    rows::put_item(items, rows, row_of(l, 0, 0, format, data, stop.0 - data.0));
+    Ok((rows + 1, after))
 }
 
 // A version: a declared type, a length and data. `before` item rows were there when its item began.
+#[tactic(auto, using(crate::proofs::Filling::filling), unfolding(crate::specs::Metadata::version, crate::specs::Metadata::declared_format))]
 fn read_version(
     c: Cursor,
     file: &[u8],
@@ -241,35 +171,28 @@ fn read_version(
     end: FilePlace,
     before: usize,
     rows: usize,
-) -> RowsResult
+) -> Result<(usize, Cursor), Refusal>
     requires { Room scope file.now types.now items.old end.0 (counts l.node rows) × (before ≤ rows) }
     ensures { Makes scope l.node rows (λ x. version x l end.0 before) file.now types.now items.old items.new c.at.0 result }
 {
     let place = c.at;
     let limits = scope.limits;
     if limits.items <= rows {
-        return RowsResult::Refused(cursor::NO_ROW_LEFT, place);
+        return Err(Refusal(Reason::NoRowLeft, place.0));
     }
-    match c.number(file, end, cursor::CUT_SHORT) {
-        Numbered::Refused(n, p) => RowsResult::Refused(n, p),
-        Numbered::Is(of, d) => match header::format_of(types, scope.types, of) {
-            Found::Nothing => RowsResult::Refused(cursor::BAD_CONTENTS, place),
-            Found::Format(format) => match d.block(file, end, cursor::CUT_SHORT) {
-                Numbered::Refused(n, p) => RowsResult::Refused(n, p),
-                Numbered::Is(size, e) => {
-                    let data = e.at;
-                    let made = rows + 1;
-                    let number = made - before;
-                    rows::put_item(
-                        items,
-                        rows,
-                        row_of(l, number, of, format, data, size as usize),
-                    );
-                    RowsResult::Done(made, e.on(size))
-                }
-            },
-        },
-    }
+    let (of, d) = c.number(file, end, Reason::CutShort)?;
+    let Some(format) = header::format_of(types, scope.types, of) else {
+        return Err(Refusal(Reason::BadContents, place.0));
+    };
+    let (size, e) = d.block(file, end, Reason::CutShort)?;
+    let made = rows + 1;
+    let number = made - before;
+    rows::put_item(
+        items,
+        rows,
+        row_of(l, number, of, format, e.at, size as usize),
+    );
+    Ok((made, e.on(size)))
 }
 
 // `count` versions, one after the other.
@@ -283,28 +206,20 @@ fn read_versions(
     end: FilePlace,
     count: u64,
     rows: usize,
-) -> RowsResult
+) -> Result<(usize, Cursor), Refusal>
     requires { Room scope file.now types.now items.old end.0 (counts l.node rows) }
     ensures { Makes scope l.node rows (λ x. times count (version x l end.0 rows)) file.now types.now items.old items.new c.at.0 result }
 {
-    let before = rows;
     let mut next = c;
     let mut m = rows;
-    let mut left = count;
-    while 0 < left {
-        match read_version(next, file, types, items, scope, l, end, before, m) {
-            RowsResult::Refused(n, p) => return RowsResult::Refused(n, p),
-            RowsResult::Done(n, d) => {
-                m = n;
-                next = d;
-            }
-        }
-        left = left - 1;
+    for _ in 0..count {
+        (m, next) = read_version(next, file, types, items, scope, l, end, rows, m)?;
     }
-    RowsResult::Done(m, next)
+    Ok((m, next))
 }
 
 // The rows of an item's contents.
+#[tactic(auto, using(crate::proofs::Filling::filling), unfolding(crate::specs::Metadata::rows_for))]
 fn read_rows(
     c: Cursor,
     file: &[u8],
@@ -315,7 +230,7 @@ fn read_rows(
     end: FilePlace,
     contents: Contents,
     rows: usize,
-) -> RowsResult
+) -> Result<(usize, Cursor), Refusal>
     requires { Room scope file.now types.now items.old end.0 (counts l.node rows) }
     ensures { Makes scope l.node rows (λ x. rows_for x l end.0 contents) file.now types.now items.old items.new c.at.0 result }
 {
@@ -325,52 +240,31 @@ fn read_rows(
     }
 }
 
-// The item here, if it is in the common form: a standard field with a universal content, whose number, length and string format are one byte each.
-fn read_common(c: Cursor, file: &[u8], end: FilePlace) -> Common
+// The item here, the length of its content, and its string format, if it is in the common form: a standard field with a universal content, whose number,
+// length and string format are one byte each.
+fn read_common(c: Cursor, file: &[u8], end: FilePlace) -> Option<(MetaItem, u64, u64)>
     requires { end.0 ≤ length file.now }
     ensures { CommonTold result file.now end.0 c.at.0 }
 {
-    let place = c.at;
-    if end.0 <= place.0 {
-        return Common::Other;
+    let at = c.at.0;
+    if end.0 <= at {
+        return None;
     }
-    if end.0 - place.0 < 5 {
-        return Common::Other;
+    let &[0, number @ 0..=127, 0, size @ 1..=127, format @ 0..=127, ..] = &file[at..end.0] else {
+        return None;
+    };
+    if end.0 - at < 4 + size as usize {
+        return None;
     }
-    let name = c.byte(file);
-    if name.value != 0 {
-        return Common::Other;
-    }
-    let number = name.next.byte(file);
-    if 127 < number.value {
-        return Common::Other;
-    }
-    let versions = number.next.byte(file);
-    if versions.value != 0 {
-        return Common::Other;
-    }
-    let size = versions.next.byte(file);
-    if size.value == 0 {
-        return Common::Other;
-    }
-    if 127 < size.value {
-        return Common::Other;
-    }
-    let format = size.next.byte(file);
-    if 127 < format.value {
-        return Common::Other;
-    }
-    let after = size.next.on(size.value);
-    if end.0 < after.at.0 {
-        return Common::Other;
-    }
-    let field = Field::Standard(number.value);
-    let contents = Contents::Universal;
-    let is = MetaItem { field, contents };
-    Common::Is(is, size.value, format.value)
+    let is = MetaItem {
+        field: Field::Standard(number as u64),
+        contents: Contents::Universal,
+    };
+    Some((is, size as u64, format as u64))
 }
 
 // An item: its field, its contents, and their rows.
+#[tactic(auto, using(crate::proofs::Filling::filling), unfolding(crate::specs::Metadata::item))]
 fn read_item(
     c: Cursor,
     file: &[u8],
@@ -381,43 +275,35 @@ fn read_item(
     index: usize,
     end: FilePlace,
     rows: usize,
-) -> RowsResult
+) -> Result<(usize, Cursor), Refusal>
     requires { Room scope file.now types.now items.old end.0 (counts node rows) }
     ensures { Makes scope node rows (λ x. item x node index end.0) file.now types.now items.old items.new c.at.0 result }
 {
     let limits = scope.limits;
     if rows < limits.items {
         // Most items are in the common form. Their row is made at once: without this a full file takes a third more time. Below is the way of any item.
-        if let Common::Is(is, size, format) = read_common(c, file, end) {
-            let field = is.field;
+        if let Some((is, size, format)) = read_common(c, file, end) {
             let l = Label {
                 node,
                 item: index,
-                field,
+                field: is.field,
             };
             let data = c.on(5);
-            let made = rows + 1;
             rows::put_item(
                 items,
                 rows,
                 row_of(l, 0, 0, format, data.at, size as usize - 1),
             );
-            return RowsResult::Done(made, c.on(4 + size));
+            return Ok((rows + 1, c.on(4 + size)));
         }
     }
-    match read_frame(c, file, end) {
-        ItemResult::Refused(n, p) => RowsResult::Refused(n, p),
-        ItemResult::Is(is, d) => {
-            let field = is.field;
-            let l = Label {
-                node,
-                item: index,
-                field,
-            };
-            let contents = is.contents;
-            read_rows(d, file, types, items, scope, l, end, contents, rows)
-        }
-    }
+    let (is, d) = read_frame(c, file, end)?;
+    let l = Label {
+        node,
+        item: index,
+        field: is.field,
+    };
+    read_rows(d, file, types, items, scope, l, end, is.contents, rows)
 }
 
 // Items end to end up to `end`.
@@ -430,31 +316,23 @@ fn read_items(
     node: usize,
     end: FilePlace,
     rows: usize,
-) -> RowsResult
+) -> Result<(usize, Cursor), Refusal>
     requires { Room scope file.now types.now items.old end.0 (counts node rows) }
     ensures { Makes scope node rows (λ x. meta_items x node end.0) file.now types.now items.old items.new c.at.0 result }
 {
-    let stop = end.0;
     let mut next = c;
-    let mut at = c.at.0;
     let mut m = rows;
-    let mut index: usize = 0;
-    while at < stop {
-        match read_item(next, file, types, items, scope, node, index, end, m) {
-            RowsResult::Refused(n, p) => return RowsResult::Refused(n, p),
-            RowsResult::Done(n, d) => {
-                m = n;
-                next = d;
-                at = d.at.0;
-            }
-        }
+    let mut index = 0;
+    while next.at.0 < end.0 {
+        (m, next) = read_item(next, file, types, items, scope, node, index, end, m)?;
         index = index + 1;
     }
-    RowsResult::Done(m, next)
+    Ok((m, next))
 }
 
 // The metadata of a node whose header ends at `end`: a length, and items end to end. After a refusal nothing is said of the item table, which may
 // hold some of the rows: `file::read_file` clears it then.
+#[tactic(auto, using(crate::proofs::Filling::filling), unfolding(crate::specs::Metadata::metadata))]
 pub fn read_metadata(
     c: Cursor,
     file: &[u8],
@@ -464,16 +342,11 @@ pub fn read_metadata(
     node: usize,
     end: FilePlace,
     rows: usize,
-) -> RowsResult
+) -> Result<(usize, Cursor), Refusal>
     requires { Room scope file.now types.now items.old end.0 (counts node rows) }
     ensures { Makes scope node rows (λ x. metadata x node end.0) file.now types.now items.old items.new c.at.0 result }
 {
-    match c.block(file, end, cursor::BAD_NODE) {
-        Numbered::Refused(n, p) => RowsResult::Refused(n, p),
-        Numbered::Is(size, d) => {
-            let after = d.on(size);
-            let stop = after.at;
-            read_items(d, file, types, items, scope, node, stop, rows)
-        }
-    }
+    let (size, d) = c.block(file, end, Reason::BadNode)?;
+    let after = d.on(size);
+    read_items(d, file, types, items, scope, node, after.at, rows)
 }

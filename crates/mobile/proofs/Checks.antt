@@ -19,7 +19,7 @@ use Rattle.file.proofs.Rows.{Standing}
 use Rattle.file.proofs.Exits.{Says, says-answer}
 use Rattle.file.proofs.Own.{part-all}
 use Rattle.description.specs.Row.{is_field}
-use Rattle.mobile.specs.Mobile.{all, is_empty, right_edition, files_only, plain_references, no_unpackers, is_need, are_needs, is_short, is_small, small_fields, check, verdict, mobile}
+use Rattle.mobile.specs.Mobile.{all, is_empty, right_edition, files_only, plain_references, no_unpackers, is_need, are_needs, small_fields, check, verdict, mobile}
 use Rattle.mobile.specs.Pass.{children, one_tune_of, tune_needs_of, later_by, later, verdict_by}
 use Rattle.mobile.specs.Told.{NextRow}
 use Rattle.mobile.proofs.Counts.{by_pass}
@@ -102,17 +102,6 @@ module _ (f : List ℕ) (ts : Few) (is : List Item) where
   pub needs-of_one : {t : ℕ} → ts ≡ few.One t → {b : Bool} → b ≡ are_needs f t (those (is_field 13) is) → b ≡ tune_needs_of f ts is
   unfolding tune_needs_of
   needs-of_one e h = rw e h
-
--- ---- check 8
-
-module _ (ns : List Node) (is : List Item) {b : Bool} (h : b ≡ all is_short ns) where
-  pub small-long : b ≡ false → false ≡ small_fields ns is
-  unfolding small_fields
-  small-long e = let z : all is_short ns ≡ false = sym h ∙ e in simp z
-
-  pub small_by : b ≡ true → {r : Bool} → r ≡ all is_small is → r ≡ small_fields ns is
-  unfolding small_fields
-  small_by e t = let z : all is_short ns ≡ true = sym h ∙ e in simp z t
 
 -- ---- the verdict: the first check that fails
 

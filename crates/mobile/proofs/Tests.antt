@@ -1,21 +1,17 @@
 -- What is asked of one row, from the tests of its words.
 -- Assumes nothing.
 use mathlib.Core.Path.{◌≡◌, refl, sym, ap, ◌∙◌}
-use mathlib.Core.Bool.{Bool, true, false, not, ◌&&◌}
+use mathlib.Core.Bool.{true, false}
 use mathlib.Core.List.{List}
 use Prim.Native.Nat.{ℕ, ◌*◌, ◌≤◌, ◌<◌}
 use native.Mathlib.Omega.{arith}
-use lib.Dec.{eqb}
 use lib.ListN.{drop}
-use borrow.Author.Tests.{eq-eqb, ne_eqb, le-leb, lt-leb, not-true, not-false}
+use borrow.Author.Tests.{eq-eqb, ne_eqb, le-leb, lt-leb}
 use Rattle.cursor.specs.declared.Node.{Node}
 use Rattle.cursor.specs.declared.Item.{Item}
 use Rattle.rows.specs.Rows.{node_width, node_from, nodes_in, node_at, rows_from}
 use Rattle.rows.proofs.Rows.{node_at_lem}
-use Rattle.description.specs.Row.{is_binary}
-use Rattle.description.specs.Count.{is_readable}
-use Rattle.mobile.specs.Mobile.{all, role_of_type, is_file, files_only, is_plain, plain_references, is_unpacked, no_unpackers, is_need, is_short, field_size, is_small}
-use Rattle.mobile.specs.declared.Role.TheVariants as role
+use Rattle.mobile.specs.Mobile.{all, is_file, files_only, is_plain, plain_references, is_unpacked, no_unpackers, is_short, field_size, is_small}
 
 -- ---- node rows
 
@@ -27,14 +23,6 @@ module _ (r : Node) where
   pub file-yes : r.contained ≡ 0 → is_file r ≡ true
   unfolding is_file
   file-yes e = eq-eqb _ _ e
-
-  pub plain-one : r.reference ≡ 1 → true ≡ is_plain r
-  unfolding is_plain
-  plain-one e = simp (eq-eqb _ _ e)
-
-  pub plain_by : ((r.reference ≡ 1) → ⊥) → {b : Bool} → b ≡ eqb r.reference 2 → b ≡ is_plain r
-  unfolding is_plain
-  plain_by e t = simp (ne_eqb _ _ e) t
 
   pub unpacked_no : ((r.unpacker_count ≡ 0) → ⊥) → is_unpacked r ≡ false
   unfolding is_unpacked
@@ -79,65 +67,11 @@ module _ (ws : List ℕ) (n : ℕ) (l : 0 < n) {r : Node} (e : r ≡ node_from w
 
 -- ---- item rows
 
-module _ (r : Item) where
-  module _ (f : List ℕ) (tune : ℕ) where
-    pub need_node : ((r.node ≡ tune) → ⊥) → false ≡ is_need f tune r
-    unfolding is_need
-    need_node n = simp (ne_eqb _ _ n)
+module _ (r : Item) {v : ℕ} (h : v ≡ field_size r) where
+  pub small-no : 256 < v → is_small r ≡ false
+  unfolding is_small
+  small-no l = lt-leb (field_size r) 256 (omega arith)
 
-    module _ (e : r.node ≡ tune) {b : Bool} (k : b ≡ is_binary r) where
-      pub need_text : not b ≡ true → false ≡ is_need f tune r
-      unfolding is_need
-      need_text t = let x : is_binary r ≡ false = sym k ∙ not-true b t in simp (eq-eqb _ _ e, x)
-
-      pub need_by : not b ≡ false → {c : Bool} → c ≡ is_readable f r → c ≡ is_need f tune r
-      unfolding is_need
-      need_by t h = let x : is_binary r ≡ true = sym k ∙ not-false b t in simp (eq-eqb _ _ e, x) h
-
-  pub size-standard : r.kind ≡ 0 → r.field ≡ field_size r
-  unfolding field_size
-  size-standard e = simp (eq-eqb _ _ e)
-
-  pub size-custom : ((r.kind ≡ 0) → ⊥) → r.name_length ≡ field_size r
-  unfolding field_size
-  size-custom e = simp (ne_eqb _ _ e)
-
-  module _ {v : ℕ} (h : v ≡ field_size r) where
-    pub small-no : 256 < v → is_small r ≡ false
-    unfolding is_small
-    small-no l = lt-leb (field_size r) 256 (omega arith)
-
-    pub small-yes : v ≤ 256 → is_small r ≡ true
-    unfolding is_small
-    small-yes l = le-leb (field_size r) 256 (omega arith)
-
--- ---- a type's number
-
-module _ (v : ℕ) where
-  pub type-zero : v ≡ 0 → role.Tune ≡ role_of_type v
-  unfolding role_of_type
-  type-zero e = rw e
-
-  pub type-one : v ≡ 1 → role.Tune ≡ role_of_type v
-  unfolding role_of_type
-  type-one e = rw e
-
-  pub type-five : v ≡ 5 → role.Instruments ≡ role_of_type v
-  unfolding role_of_type
-  type-five e = rw e
-
-  pub type-other : ((v ≡ 0) → ⊥) → ((v ≡ 1) → ⊥) → ((v ≡ 5) → ⊥) → role.Other ≡ role_of_type v
-  unfolding role_of_type
-  type-other a b c = simp (ne_eqb _ _ a, ne_eqb _ _ b, ne_eqb _ _ c)
-
--- ---- version, type and revision
-
-module _ (version kind revision : ℕ) where
-  pub edition-version : ((version ≡ 200) → ⊥) → false ≡ (eqb version 200 && (eqb kind 2 && eqb revision 1))
-  edition-version e = simp (ne_eqb _ _ e)
-
-  pub edition-kind : version ≡ 200 → ((kind ≡ 2) → ⊥) → false ≡ (eqb version 200 && (eqb kind 2 && eqb revision 1))
-  edition-kind v e = simp (eq-eqb _ _ v, ne_eqb _ _ e)
-
-  pub edition-by : version ≡ 200 → kind ≡ 2 → {r : Bool} → r ≡ eqb revision 1 → r ≡ (eqb version 200 && (eqb kind 2 && eqb revision 1))
-  edition-by v k t = simp (eq-eqb _ _ v, eq-eqb _ _ k) t
+  pub small-yes : v ≤ 256 → is_small r ≡ true
+  unfolding is_small
+  small-yes l = le-leb (field_size r) 256 (omega arith)

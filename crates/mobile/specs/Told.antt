@@ -6,16 +6,10 @@ use Rattle.header.specs.Header.{Header}
 use Rattle.rows.specs.Rows.{item_at, nodes_in, items_in}
 use Rattle.file.specs.Reading.{summary}
 use Rattle.file.specs.declared.Summary.{Summary}
-use Rattle.file.specs.Asking.{Result, good, bad}
+pub use Rattle.room.specs.Told.{told}
 use Rattle.file.specs.Own.{those, part}
 use Rattle.description.specs.Row.{is_field}
 use Rattle.mobile.specs.Mobile.{verdict}
-use Rattle.mobile.specs.declared.Judged.{Judged}
-use Rattle.mobile.specs.declared.Judged.TheVariants as judged
-
-abbrev pub told : Judged → Result ℕ
-told (judged.Verdict v) = good v
-told (judged.Refused n p) = bad n p
 
 -- r is the first row of the field in a part, or its end
 pub record NextRow (field : ℕ) (is : List Item) (from end r : ℕ) : Type 0 where

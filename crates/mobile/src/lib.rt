@@ -10,8 +10,9 @@ ghost use Rattle.mobile.specs.Mobile.{all, role_of_type, role_of_row, role_of, f
 ghost use Rattle.mobile.specs.Pass.{besides, child, children, one_tune_of, tune_needs_of, later};
 ghost use Rattle.mobile.specs.Told.{told, NextRow, Judges};
 
-use cursor::{Cursor, FilePlace, Item, Node, Numbered};
-use file::{Read, Summary};
+use cursor::{Cursor, FilePlace, Item, Node};
+use file::Summary;
+use refusals::{Reason, Refusal};
 
 // What a child is, by its type: a tune (0 or 1), instruments (5), or something else, which may not stand here.
 #[derive(Clone, Copy)]
@@ -37,24 +38,11 @@ struct Children {
     instruments: Few,
 }
 
-// The number of the first check that fails, 0 if none; or the refusal's number and place.
-#[derive(Clone, Copy)]
-pub enum Judged {
-    Verdict(u64),
-    Refused(u64, usize),
-}
-
 // Version 2.00, type 2, revision 1.
 fn right_edition(version: u64, kind: u64, revision: u64) -> bool
     ensures { result ≡ (eqb version 200 && (eqb kind 2 && eqb revision 1)) }
 {
-    if version != 200 {
-        return false;
-    }
-    if kind != 2 {
-        return false;
-    }
-    revision == 1
+    version == 200 && kind == 2 && revision == 1
 }
 
 // Whether the root is a folder and all others are file nodes.
@@ -69,24 +57,20 @@ fn files_only(nodes: &[u64], many: usize) -> bool
     if root.contained == 0 {
         return false;
     }
-    let mut i = 1;
-    while i < many {
+    for i in 1..many {
         let row = rows::node_at(nodes, i);
         if row.contained != 0 {
             return false;
         }
-        i = i + 1;
     }
     true
 }
 
+#[tactic(auto, unfolding(crate::specs::Mobile::is_plain))]
 fn is_plain(row: Node) -> bool
     ensures { result ≡ is_plain row }
 {
-    if row.reference == 1 {
-        return true;
-    }
-    row.reference == 2
+    row.reference == 1 || row.reference == 2
 }
 
 // Whether every node uses reference 1 or 2.
@@ -94,13 +78,11 @@ fn plain_references(nodes: &[u64], many: usize) -> bool
     requires { many * node_width ≤ length nodes.now }
     ensures { result ≡ plain_references (nodes_in many nodes.now) }
 {
-    let mut i = 0;
-    while i < many {
+    for i in 0..many {
         let row = rows::node_at(nodes, i);
         if !is_plain(row) {
             return false;
         }
-        i = i + 1;
     }
     true
 }
@@ -110,13 +92,11 @@ fn no_unpackers(nodes: &[u64], many: usize) -> bool
     requires { many * node_width ≤ length nodes.now }
     ensures { result ≡ no_unpackers (nodes_in many nodes.now) }
 {
-    let mut i = 0;
-    while i < many {
+    for i in 0..many {
         let row = rows::node_at(nodes, i);
         if row.unpacker_count != 0 {
             return false;
         }
-        i = i + 1;
     }
     true
 }
@@ -126,30 +106,24 @@ fn next_row(items: &[u64], many: usize, field: u64, from: usize, end: usize) -> 
     requires { (many * item_width ≤ length items.now) × (from ≤ end) × (end ≤ many) }
     ensures { NextRow field (items_in many items.now) from end result }
 {
-    let mut i = from;
-    while i < end {
+    for i in from..end {
         if description::is_field(rows::item_at(items, i), field) {
             return i;
         }
-        i = i + 1;
     }
     end
 }
 
 // What a child of the type is.
+#[tactic(auto, unfolding(crate::specs::Mobile::role_of_type))]
 fn role_of_type(v: u64) -> Role
     ensures { result ≡ role_of_type v }
 {
-    if v == 0 {
-        return Role::Tune;
+    match v {
+        0 | 1 => Role::Tune,
+        5 => Role::Instruments,
+        _ => Role::Other,
     }
-    if v == 1 {
-        return Role::Tune;
-    }
-    if v == 5 {
-        return Role::Instruments;
-    }
-    Role::Other
 }
 
 // What a child is whose one row of field 3 is this.
@@ -169,13 +143,12 @@ fn role_of_row(file: &[u8], row: Item) -> Role
         return Role::Other;
     }
     let end = place + size;
-    match (Cursor {
+    let c = Cursor {
         at: FilePlace(place + 1),
-    })
-    .number(file, FilePlace(end), cursor::CUT_SHORT)
-    {
-        Numbered::Refused(_, _) => Role::Other,
-        Numbered::Is(v, next) => {
+    };
+    match c.number(file, FilePlace(end), Reason::CutShort) {
+        Err(_) => Role::Other,
+        Ok((v, next)) => {
             let at = next.at;
             if at.0 != end {
                 return Role::Other;
@@ -282,17 +255,12 @@ fn one_tune(tunes: Few, instruments: Few) -> bool
 }
 
 // Whether the row, of field 13, may stand where it is, and is readable.
+#[tactic(auto, unfolding(crate::specs::Mobile::is_need))]
 fn is_need(file: &[u8], row: Item, tune: usize) -> bool
     requires { ItemIn (length file.now) row }
     ensures { result ≡ is_need file.now tune row }
 {
-    if row.node != tune as u64 {
-        return false;
-    }
-    if !description::is_binary(row) {
-        return false;
-    }
-    description::is_readable(file, row)
+    row.node == tune as u64 && description::is_binary(row) && description::is_readable(file, row)
 }
 
 // Whether there are rows of field 13, and all may stand where they are, and are readable.
@@ -330,25 +298,25 @@ fn short_headers(nodes: &[u64], many: usize) -> bool
     requires { many * node_width ≤ length nodes.now }
     ensures { result ≡ all is_short (nodes_in many nodes.now) }
 {
-    let mut i = 0;
-    while i < many {
+    for i in 0..many {
         let row = rows::node_at(nodes, i);
         if 65535 < row.header {
             return false;
         }
-        i = i + 1;
     }
     true
 }
 
 // The field number of the row, or its name's length.
+#[tactic(auto, unfolding(crate::specs::Mobile::field_size))]
 fn field_size(row: Item) -> u64
     ensures { result ≡ field_size row }
 {
     if row.kind == 0 {
-        return row.field;
+        row.field
+    } else {
+        row.name_length
     }
-    row.name_length
 }
 
 // Whether every field number and name length is at most 256.
@@ -356,25 +324,21 @@ fn small_items(items: &[u64], many: usize) -> bool
     requires { many * item_width ≤ length items.now }
     ensures { result ≡ all is_small (items_in many items.now) }
 {
-    let mut i = 0;
-    while i < many {
+    for i in 0..many {
         if 256 < field_size(rows::item_at(items, i)) {
             return false;
         }
-        i = i + 1;
     }
     true
 }
 
 // Whether header lengths, field numbers and name lengths are small enough.
+#[tactic(auto, unfolding(crate::specs::Mobile::small_fields))]
 fn small_fields(nodes: &[u64], items: &[u64], n: usize, m: usize) -> bool
     requires { (n * node_width ≤ length nodes.now) × (m * item_width ≤ length items.now) }
     ensures { result ≡ small_fields (nodes_in n nodes.now) (items_in m items.now) }
 {
-    if !short_headers(nodes, n) {
-        return false;
-    }
-    small_items(items, m)
+    short_headers(nodes, n) && small_items(items, m)
 }
 
 // The first of checks 5 to 8 that fails, 0 if none. The children are gone through once.
@@ -422,14 +386,12 @@ fn verdict(file: &[u8], nodes: &[u64], items: &[u64], s: Summary) -> u64
     later_verdict(file, nodes, items, n, s.items)
 }
 
-// Judges Mobile XMF: reads the file into the two tables and gives the verdict.
-pub fn judge(file: &[u8], nodes: &mut [u64], items: &mut [u64]) -> Judged
+// Judges Mobile XMF: reads the file into the two tables and gives the verdict, which is the number of the first check that fails, 0 if none.
+pub fn judge(file: &[u8], nodes: &mut [u64], items: &mut [u64]) -> Result<u64, Refusal>
     ensures answer { told result ≡ answered nodes.old items.old file.now mobile }
     ensures nodes { nodes.new ≡ nodes_left nodes.old items.old file.now mobile }
     ensures items { items.new ≡ items_left nodes.old items.old file.now mobile }
 {
-    match file::read_file(file, nodes, items) {
-        Read::Refused(n, p) => Judged::Refused(n, p.0),
-        Read::Is(s) => Judged::Verdict(verdict(file, nodes, items, s)),
-    }
+    let s = file::read_file(file, nodes, items)?;
+    Ok(verdict(file, nodes, items, s))
 }

@@ -11,12 +11,11 @@ use lib.Dec.{eqb}
 use lib.ListN.{length, drop, take, replicate, length-append, drop_of_length-le}
 use lib.Seq.{slice, length-slice}
 use borrow.Author.Tests.{eq-eqb, ne_eqb, le-leb, lt-leb}
+use Rattle.std.specs.Prelude.{Option, Some, None}
 use Rattle.room.specs.Room.{Result, good, bad, fitting, counted, kept}
 use Rattle.room.specs.Counts.{Counts, too_many}
 use Rattle.room.proofs.Counting.{counts-then, counts-as, Going, going_on, going_end, wrote-all, wrote-past}
 use Rattle.editions.specs.declared.State.{State}
-use Rattle.mover.specs.declared.ItemAt.{ItemAt}
-use Rattle.mover.specs.declared.ItemAt.TheVariants as standing
 use Rattle.editions.specs.Sheets.{Lines, parted, written, word, Kind, node, item, other, kind, picked, is_kind, is_of, nodes_of, items_of, reordered, renamed, lead, behind, moved_lines, judged, is_second, answered, move}
 use Rattle.editions.specs.Reads.{Known, AllKnown, run_of, past_run, walk}
 use Rattle.editions.specs.Told.{Well}
@@ -119,9 +118,9 @@ put-kind_end s b at h = ap written (kind-end s b at h) ∙ written_none
 
 -- ---- the next item line
 
-pub right-low : (s : List ℕ) (low : ℕ) (i : ItemAt) → Right s low i → Right s 0 i
-right-low s low (standing.Is at end k) (a, b, c, d, e, f) = (omega arith, b, c, d, e, f)
-right-low s low (standing.Nothing) r = tt
+pub right-low : (s : List ℕ) (low : ℕ) (i : Option (ℕ × ℕ × ℕ)) → Right s low i → Right s 0 i
+right-low s low (Some (at, end, k)) (a, b, c, d, e, f) = (omega arith, b, c, d, e, f)
+right-low s low None r = tt
 
 item_of : (k : Kind) → is_kind true k ≡ true → (n : ℕ) × (k ≡ item n)
 item_of (node n) e = let z : ◌≡◌ {A = ℕ} 0 1 = cc in absurd (omega arith)
@@ -137,7 +136,7 @@ module _ (s : List ℕ) (from at : ℕ) (g : items_of (rest s from) ≡ items_of
     item-past f = g ∙ kind-past s true at k m xe de f
 
     pub item-here : d ≡ true → from ≤ at → at < length s → at ≤ end → {n : ℕ} → ((j : ℕ) → kind x ≡ item j → n ≡ j) → AllKnown (rest s (end + 1))
-        → (item_lines s (standing.Is at end n) ≡ items_of (rest s from)) × Right s from (standing.Is at end n)
+        → (item_lines s (Some (at, end, n)) ≡ items_of (rest s from)) × Right s from (Some (at, end, n))
     item-here f a h c w v =
         let (j, q) = item_of (kind x) (sym de ∙ f) in
         (sym (g ∙ kind-one s true at k m xe de f), (a, h, c, m, ap kind (sym xe) ∙ q ∙ ap item (sym (w j q)), v))
@@ -149,7 +148,7 @@ is-of row k l e = rw e refl
 
 module _ (s : List ℕ) (row at end k : ℕ) (e : kind (slice at end s) ≡ item k) where
   abbrev these : Lines
-  these = item_lines s (standing.Is at end k)
+  these = item_lines s (Some (at, end, k))
 
   abbrev behind-it : Lines
   behind-it = items_of (rest s (end + 1))
@@ -165,36 +164,36 @@ module _ (s : List ℕ) (row at end k : ℕ) (e : kind (slice at end s) ≡ item
     past-on = let w = is-of row k (slice at end s) e ∙ eq-eqb k row q in rw w refl
 
 -- of the lines of a row, those from the item line on are left; behind them the same lines stand
-pub record Running (o o' : List ℕ) (t r : ℕ) (s : List ℕ) (row : ℕ) (first i : ItemAt) : Type 0 where
+pub record Running (o o' : List ℕ) (t r : ℕ) (s : List ℕ) (row : ℕ) (first i : Option (ℕ × ℕ × ℕ)) : Type 0 where
   pub puts : Going o o' t r (written (run_of row (item_lines s first))) (written (run_of row (item_lines s i)))
   pub past : past_run row (item_lines s first) ≡ past_run row (item_lines s i)
   pub right : Right s 0 i
 
-module _ (s : List ℕ) (row : ℕ) {o o' : List ℕ} {t r : ℕ} {first i : ItemAt} (g : Running o o' t r s row first i) where
-  abbrev Ends : ItemAt → Type 0
+module _ (s : List ℕ) (row : ℕ) {o o' : List ℕ} {t r : ℕ} {first i : Option (ℕ × ℕ × ℕ)} (g : Running o o' t r s row first i) where
+  abbrev Ends : Option (ℕ × ℕ × ℕ) → Type 0
   Ends j = Counts o o' t (written (run_of row (item_lines s first))) r × ((item_lines s j ≡ past_run row (item_lines s first)) × Right s 0 j)
 
-  pub run_none : i ≡ standing.Nothing → Ends i
+  pub run_none : i ≡ None → Ends i
   run_none e = (going_end (rw e written_none) g.puts, (sym (g.past ∙ rw e refl), g.right))
 
-  module _ {at end k : ℕ} (e : i ≡ standing.Is at end k) where
-    here : Right s 0 (standing.Is at end k)
+  module _ {at end k : ℕ} (e : i ≡ Some (at, end, k)) where
+    here : Right s 0 (Some (at, end, k))
     here = rw e at g.right
 
-    pub run-over : (k ≡ row → ⊥) → Ends (standing.Is at end k)
+    pub run-over : (k ≡ row → ⊥) → Ends i
     run-over n =
         let (a, b) = run-stops s row at end k here.4 n in
-        (going_end (rw e a) g.puts, (sym (g.past ∙ rw e b), here))
+        subst Ends (sym e) (going_end (rw e a) g.puts, (sym (g.past ∙ rw e b), here))
 
-    pub run-less : (j : ItemAt) → (item_lines s j ≡ items_of (rest s (end + 1))) × Right s (end + 1) j → left_of s j < left_of s i
+    pub run-less : (j : Option (ℕ × ℕ × ℕ)) → (item_lines s j ≡ items_of (rest s (end + 1))) × Right s (end + 1) j → left_of s j < left_of s i
     run-less j n = rw e (by j n.1)
       where
-        by : (j : ItemAt) → Right s (end + 1) j → left_of s j < left_of s (standing.Is at end k)
-        by (standing.Is a b c) (u, v, w, x, y, z) = let h = here.1 in let m = here.2 in omega arith
-        by (standing.Nothing) u = omega arith
+        by : (j : Option (ℕ × ℕ × ℕ)) → Right s (end + 1) j → left_of s j < left_of s (Some (at, end, k))
+        by (Some (a, b, c)) (u, v, w, x, y, z) = let h = here.1 in let m = here.2 in omega arith
+        by None u = omega arith
 
     pub run-turn : k ≡ row → {o'' : List ℕ} {r' : ℕ} → Counts o' o'' r (slice at end s ++ 0x0A ∷ []) r'
-        → (j : ItemAt) → (item_lines s j ≡ items_of (rest s (end + 1))) × Right s (end + 1) j → Running o o'' t r' s row first j
+        → (j : Option (ℕ × ℕ × ℕ)) → (item_lines s j ≡ items_of (rest s (end + 1))) × Right s (end + 1) j → Running o o'' t r' s row first j
     run-turn q p j n = record {
       puts = going_on (ap (λ v. written (run_of row (item_lines s v))) e ∙ run_on s row at end k here.4 q ∙ ap
           (λ v. (slice at end s ++ 0x0A ∷ []) ++ written (run_of row v)) (sym n.0)) g.puts p;

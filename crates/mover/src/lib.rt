@@ -11,21 +11,13 @@ ghost use Rattle.editions.specs.Reads.{Known, AllKnown, run_of, past_run};
 ghost use Rattle.editions.specs.Told.{Well};
 ghost use Rattle.mover.specs.Told.{item_lines, Right, grouped};
 
-use editions::{Found, Judged};
-use room::Written;
-
-// The next item line: where it begins and ends, and its node.
-#[derive(Clone, Copy)]
-enum ItemAt {
-    Is(usize, usize, u64),
-    Nothing,
-}
+use refusals::{Reason, Refusal};
 
 // The place after what was put, and the item line that is next.
 #[derive(Clone, Copy)]
 struct Ran {
     to: usize,
-    item: ItemAt,
+    item: Option<(usize, usize, u64)>,
 }
 
 // Puts a line.
@@ -76,13 +68,13 @@ fn node_of(line: &[u8]) -> u64
         return 0;
     }
     match editions::number_field(line, 2) {
-        Found::No => 0,
-        Found::Is(row, _) => row,
+        None => 0,
+        Some((row, _)) => row,
     }
 }
 
-// The first item line from a place on.
-fn next_item(sheet: &[u8], from: usize) -> ItemAt
+// The first item line from a place on: where it begins and ends, and its node.
+fn next_item(sheet: &[u8], from: usize) -> Option<(usize, usize, u64)>
     requires { AllKnown (parted 0x0A (drop from sheet.now)) }
     ensures { (item_lines sheet.now result ≡ items_of (parted 0x0A (drop from sheet.now))) × Right sheet.now from result }
 {
@@ -90,15 +82,21 @@ fn next_item(sheet: &[u8], from: usize) -> ItemAt
     while at < sheet.len() {
         let end = editions::piece_end(sheet, at, 0x0a);
         if is_kind(&sheet[at..end], true) {
-            return ItemAt::Is(at, end, node_of(&sheet[at..end]));
+            return Some((at, end, node_of(&sheet[at..end])));
         }
         at = end + 1;
     }
-    ItemAt::Nothing
+    None
 }
 
 // Puts the item lines of a row that stand next.
-fn put_run(out: &mut [u8], to: usize, sheet: &[u8], first: ItemAt, row: u64) -> Ran
+fn put_run(
+    out: &mut [u8],
+    to: usize,
+    sheet: &[u8],
+    first: Option<(usize, usize, u64)>,
+    row: u64,
+) -> Ran
     requires { Right sheet.now 0 first }
     ensures puts { Counts out.old out.new to (written (run_of row (item_lines sheet.now first))) result.to }
     ensures left { (item_lines sheet.now result.item ≡ past_run row (item_lines sheet.now first)) × Right sheet.now 0 result.item }
@@ -107,11 +105,11 @@ fn put_run(out: &mut [u8], to: usize, sheet: &[u8], first: ItemAt, row: u64) -> 
     let mut item = first;
     loop {
         match item {
-            ItemAt::Nothing => return Ran {
+            None => return Ran {
                 to: next,
                 item: item,
             },
-            ItemAt::Is(at, end, k) => {
+            Some((at, end, k)) => {
                 if k != row {
                     return Ran {
                         to: next,
@@ -168,23 +166,23 @@ fn put_moved(out: &mut [u8], sheet: &[u8], second: bool, stop: usize) -> usize
 }
 
 // Moves a sheet to the other edition.
-pub fn move_sheet(sheet: &[u8], room: &mut [u8]) -> Written
+pub fn move_sheet(sheet: &[u8], room: &mut [u8]) -> Result<usize, Refusal>
     ensures answer { told result ≡ counted (fitting (length room.old) (move sheet.now)) }
     ensures room { room.new ≡ kept (length room.old) (fitting (length room.old) (move sheet.now)) }
 {
     match editions::judge(sheet) {
-        Judged::Bad(number) => {
-            room::clear_bytes(room);
-            Written::Refused(cursor::BAD_SHEET, number)
+        Err(number) => {
+            room.fill(0);
+            Err(Refusal(Reason::BadSheet, number))
         }
-        Judged::Is(second, stop) => {
+        Ok((second, stop)) => {
             let size = put_moved(room, sheet, second, stop);
             if room.len() < size {
-                room::clear_bytes(room);
-                return Written::Refused(cursor::NO_ROOM, 0);
+                room.fill(0);
+                return Err(Refusal(Reason::NoRoom, 0));
             }
-            room::clear_bytes_from(room, size);
-            Written::Bytes(size)
+            room::fill_from(room, size, 0);
+            Ok(size)
         }
     }
 }

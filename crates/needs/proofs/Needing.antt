@@ -11,36 +11,52 @@ use Rattle.machine.specs.Machine.{Out, ok, refused, run}
 use Rattle.cursor.specs.Rows.{meta_frame}
 use Rattle.cursor.specs.Leaves.{number}
 use Rattle.machine.proofs.Laws.{running, and_then}
-use Rattle.cursor.specs.declared.FilePlace.{FilePlace}
+use Rattle.std.proofs.Common as std
+use Rattle.std.proofs.Common.{Ok, Err}
+use Rattle.refusals.specs.Reasons.{number_of}
+use Rattle.refusals.specs.declared.Refusal.{Refusal}
 use Rattle.cursor.specs.declared.Item.{Item}
 use Rattle.metadata.specs.Tables.{full_nodes, full_items, limits}
 use Rattle.rows.specs.Rows.{item_width, item_from, items_in, item_at, rows_from}
-use Rattle.room.specs.Room.{Result, good, bad, padded}
+use Rattle.room.specs.Room.{Result, good, bad}
 use Rattle.room.specs.Counts.{Counts, too_many}
 use Rattle.room.proofs.Counting.{counts-none, counts-then, counts-as}
-use Rattle.file.specs.Reading.{read_of, read_file}
+use Rattle.file.specs.Reading.{read_file}
 use Rattle.file.specs.Hidden.{is_hidden}
 use Rattle.file.specs.Asking.{ask}
-use Rattle.file.specs.declared.Read.{Read}
-use Rattle.file.specs.declared.Read.TheVariants as read
 use Rattle.file.specs.declared.Summary.{Summary}
 use Rattle.file.proofs.Rows.{Standing}
-use Rattle.rows.proofs.Rows.{item-at, items-in_length}
 use Rattle.text.specs.Text as text
-use Rattle.description.specs.Row.{is_field, is_binary, is_description}
+use Rattle.description.specs.Row.{is_description}
 use Rattle.description.specs.Description.{numbers, lists, table, description}
 use Rattle.description.specs.Count.{data_read, count_in}
 use Rattle.lines.specs.Answer.{Answer, plainly, nothing, refused_by, fitted, printed, reads, Gives}
-use Rattle.needs.specs.Needed.{count_line, count_lines, needs_in, item_needs, row_needs, both, needs_from, needs, needs_answer, answers, shown_needs, shown_count, of_row, Puts}
-use Rattle.needs.specs.declared.Put.{Put}
-use Rattle.needs.specs.declared.Put.TheVariants as put
+use Rattle.needs.specs.Needed.{described, count_line, count_lines, needs_in, item_needs, row_needs, both, needs_from, needs, needs_answer, answers, shown_needs, shown_count, of_row, Puts}
+use Rattle.refusals.specs.declared.Reason.TheVariants as reason
 use Rattle.lines.proofs.Ending.{padded-none, printed-bad}
-use Rattle.lines.proofs.Reading.{unread, known}
+use Rattle.lines.proofs.Reading.{known, count-is as items-count, row_is}
 
 pub count-is : (row channel resource count : ℕ) → (0x43 ∷ []) ++ text.number row ++ text.number channel ++ text.number resource ++
     text.number count ++ (0x0A ∷ []) ≡ count_line row channel resource count
 unfolding count_line
 count-is row channel resource count = refl
+
+-- ---- a fault of a field
+
+module _ {A : Type 0} {B : Type 0} (tells : std.Result A Refusal → B) {q r : std.Result A Refusal} {y : B} (t : tells q ≡ y) (d : r ≡ described q) where
+  pub described-good : {a : A} → r ≡ Ok a → y ≡ tells (Ok a)
+  described-good {a} e = by q refl (sym d ∙ e)
+    where
+      by : (p : std.Result A Refusal) → q ≡ p → described p ≡ Ok a → y ≡ tells (Ok a)
+      by (Ok b) k h = sym t ∙ ap tells (k ∙ h)
+      by (Err x) k h = cc
+
+  pub described-bad : {e : Refusal} → r ≡ Err e → (k : Refusal) × (y ≡ tells (Err k)) × (e ≡ record { 0 = reason.BadDescription; 1 = k.1 })
+  described-bad {e} h = by q refl (sym d ∙ h)
+    where
+      by : (p : std.Result A Refusal) → q ≡ p → described p ≡ Err e → (k : Refusal) × (y ≡ tells (Err k)) × (e ≡ record { 0 = reason.BadDescription; 1 = k.1 })
+      by (Ok b) k h = cc
+      by (Err x) k h = (x, sym t ∙ ap tells k, cc)
 
 -- ---- the count table, number after number
 
@@ -171,14 +187,14 @@ module _ (end : ℕ) (f : List ℕ) (at row : ℕ) where
 
 -- ---- what was put
 
-pub puts-as : (o o' : List ℕ) (to : ℕ) {x y : Result (List ℕ)} (r : Put) → x ≡ y → Puts o o' to x r → Puts o o' to y r
+pub puts-as : (o o' : List ℕ) (to : ℕ) {x y : Result (List ℕ)} (r : std.Result ℕ Refusal) → x ≡ y → Puts o o' to x r → Puts o o' to y r
 puts-as o o' to r e p = rw e at p
 
-module _ (o o' : List ℕ) (to : ℕ) (x : Result (List ℕ)) (p : Put) (h : Puts o o' to x p) where
-  pub puts-bad : {m q : ℕ} → p ≡ put.Refused m q → (x ≡ bad m q) × (length o' ≡ length o)
+module _ (o o' : List ℕ) (to : ℕ) (x : Result (List ℕ)) (p : std.Result ℕ Refusal) (h : Puts o o' to x p) where
+  pub puts-bad : {e : Refusal} → p ≡ Err e → (x ≡ bad (number_of e.0) e.1) × (length o' ≡ length o)
   puts-bad e = rw e at h
 
-  pub puts-good : {r : ℕ} → p ≡ put.To r → (w : List ℕ) × (x ≡ good w) × Counts o o' to w r
+  pub puts-good : {r : ℕ} → p ≡ Ok r → (w : List ℕ) × (x ≡ good w) × Counts o o' to w r
   puts-good e = rw e at h
 
 -- ---- the rows one after the other
@@ -235,14 +251,6 @@ hidden_is r e = eq-eqb (r.format % 2) 1 e
 pub visible-is : (r : Item) → (r.format % 2 ≡ 1 → ⊥) → is_hidden r ≡ false
 unfolding is_hidden
 visible-is r n = ne_eqb (r.format % 2) 1 n
-
-pub described-no : (r : Item) → false ≡ is_field 13 r → false ≡ is_description r
-unfolding is_description
-described-no r e = rw (sym e)
-
-pub described-by : (r : Item) {b : Bool} → true ≡ is_field 13 r → b ≡ is_binary r → b ≡ is_description r
-unfolding is_description
-described-by r e h = h ∙ rw (sym e)
 
 module _ (f : List ℕ) (row : ℕ) (r : Item) where
   pub row-hidden : r.format % 2 ≡ 1 → row_needs f row r ≡ good []
@@ -302,31 +310,20 @@ told-printed room y e = printed-same room y ∙ ap (printed room [] (λ a. a)) (
 -- ---- with full tables
 
 module _ (f : List ℕ) {n i : ℕ} (en : full_nodes ≡ n) (ei : full_items ≡ i) (room : ℕ) where
-  pub needs-bad : {r : Read} → r ≡ read_of (read_file (limits n i) f) → {m : ℕ} {p : FilePlace} → r ≡ read.Refused m p → refused_by room [] m p.0 ≡ needs_answer room f
-  unfolding needs_answer
-  needs-bad e k = printed-bad plainly _ _ (unread f en ei e k (needs f))
-
   pub needs-good : {s : Summary} {t u : List ℕ} → Standing f (read_file (limits n i) f) s t u → printed room [] plainly (needs_from f 0 (items_in s.items u)) ≡ needs_answer room f
   unfolding needs_answer needs
   needs-good st = rw st.items-are (ap (printed room [] plainly) (sym (known f en ei st (needs f))))
 
   module _ (row : ℕ) (shows : List ℕ → ℕ → Item → Result Answer) where
-    pub of_unread : {r : Read} → r ≡ read_of (read_file (limits n i) f) → {m : ℕ} {p : FilePlace} → r ≡ read.Refused m p → refused_by room [] m
-        p.0 ≡ printed room [] (λ a. a) (ask (reads f) (of_row row shows f))
-    of_unread e k = printed-bad (λ a. a) _ _ (unread f en ei e k (of_row row shows f))
-
     module _ {s : Summary} {t u : List ℕ} (st : Standing f (read_file (limits n i) f) s t u) where
-      count-is_items : length st.is ≡ s.items
-      count-is_items = ap length (sym st.items-are) ∙ items-in_length u s.items
-
       pub of_past : s.items ≤ row → refused_by room [] 18 0 ≡ printed room [] (λ a. a) (ask (reads f) (of_row row shows f))
       unfolding of_row
-      of_past l = let c = count-is_items in printed-bad (λ a. a) _ _ (known f en ei st (of_row row shows f) ∙ rw (le-leb (length st.is) row (omega arith)))
+      of_past l = let c = items-count st in printed-bad (λ a. a) _ _ (known f en ei st (of_row row shows f) ∙ rw (le-leb (length st.is) row (omega arith)))
 
       pub of_row_lem : row < s.items → {x : Item} → x ≡ item_from u (row * item_width) → printed room [] (λ a. a) (shows f row x) ≡ printed room []
           (λ a. a) (ask (reads f) (of_row row shows f))
       unfolding of_row
       of_row_lem l {x} z =
-          let c = count-is_items in
-          let y : x ≡ item_at st.is row = z ∙ sym (item-at u s.items row l) ∙ ap (λ (v : List Item). item_at v row) st.items-are in
+          let c = items-count st in
+          let y : x ≡ item_at st.is row = z ∙ sym (row_is st row l) in
           ap (printed room [] (λ a. a)) (sym (known f en ei st (of_row row shows f) ∙ rw (lt-leb (length st.is) row (omega arith), y)))

@@ -1,6 +1,10 @@
 -- What a tune needs: the counts of content descriptions, a line each. Those of a hidden row are not told.
 -- Assumes nothing.
-use Rattle.std.specs.Prelude.{◌≡◌, cond, List, [], ◌∷◌, ◌++◌, ℕ, ◌+◌, ◌/◌, ◌%◌, leb, length}
+use Rattle.std.specs.Prelude.{◌≡◌, Ok, Err, cond, List, [], ◌∷◌, ◌++◌, ℕ, ◌+◌, ◌/◌, ◌%◌, leb, length}
+use Rattle.std.specs.Prelude as std
+use Rattle.refusals.specs.Reasons.{number_of}
+use Rattle.refusals.specs.declared.Refusal.{Refusal}
+use Rattle.refusals.specs.declared.Reason.TheVariants as reason
 use Rattle.machine.specs.Machine.{Out, ok, refused}
 use Rattle.cursor.specs.Refusals.{no_such_row, no_such_item, bad_description}
 use Rattle.cursor.specs.declared.Item.{Item}
@@ -14,8 +18,6 @@ use Rattle.description.specs.Row.{is_description}
 use Rattle.description.specs.Description.{Description}
 use Rattle.description.specs.Count.{data_read, count_in}
 use Rattle.lines.specs.Answer.{Answer, plainly, nothing, printed, reads}
-use Rattle.needs.specs.declared.Put.{Put}
-use Rattle.needs.specs.declared.Put.TheVariants as put
 
 -- `C`, item row, channel, resource, count
 unfoldable pub count_line : (row channel resource count : ℕ) → List ℕ
@@ -83,6 +85,12 @@ count_answer room row c s f = printed room [] (λ a. a) (ask (reads f) (of_row r
 
 -- ---- what was put from `to` on
 
-abbrev pub Puts : (o o' : List ℕ) → (to : ℕ) → Result (List ℕ) → Put → Type 0
-Puts o o' to x (put.To r) = (w : List ℕ) × (x ≡ good w) × Counts o o' to w r
-Puts o o' to x (put.Refused n p) = (x ≡ bad n p) × (length o' ≡ length o)
+abbrev pub Puts : (o o' : List ℕ) → (to : ℕ) → Result (List ℕ) → std.Result ℕ Refusal → Type 0
+Puts o o' to x (Ok r) = (w : List ℕ) × (x ≡ good w) × Counts o o' to w r
+Puts o o' to x (Err e) = (x ≡ bad (number_of e.0) e.1) × (length o' ≡ length o)
+
+-- ---- what a fault of a field is
+
+abbrev pub described : {A : Type 0} → std.Result A Refusal → std.Result A Refusal
+described (Ok a) = Ok a
+described (Err e) = Err (record { 0 = reason.BadDescription; 1 = e.1 })

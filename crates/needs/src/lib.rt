@@ -9,19 +9,11 @@ ghost use Rattle.rows.specs.Rows.{items_in, ItemIn, ItemRows};
 ghost use Rattle.description.specs.Row.{is_description};
 ghost use Rattle.description.specs.Description.{table, description};
 ghost use Rattle.lines.specs.Answer.{nothing, plainly, printed, Gives};
-ghost use Rattle.needs.specs.Needed.{count_line, needs_in, row_needs, needs_from, needs_answer, shown_needs, shown_count, row_needs_answer, count_answer, Puts};
+ghost use Rattle.needs.specs.Needed.{described, count_line, needs_in, row_needs, needs_from, needs_answer, shown_needs, shown_count, row_needs_answer, count_answer, Puts};
 
-use cursor::{Cursor, FilePlace, Item, Numbered, Passed};
-use description::Counted;
-use file::Read;
+use cursor::{Cursor, FilePlace, Item};
 use lines::{Made, conclude, refuse};
-
-// The place after what was put; or a refusal's number and place.
-#[derive(Clone, Copy)]
-pub enum Put {
-    To(usize),
-    Refused(u64, usize),
-}
+use refusals::{Reason, Refusal};
 
 // Puts the line of a count.
 fn put_count(
@@ -46,7 +38,7 @@ fn put_count(
 pub fn hidden(text: &mut [u8]) -> Made
     ensures { Gives (length text.old) result text.new (nothing) }
 {
-    room::clear_bytes(text);
+    text.fill(0);
     Made { status: 1, size: 0 }
 }
 
@@ -66,8 +58,8 @@ fn make_row_count(
         return hidden(text);
     }
     match description::count_in(file, item, channel, resource) {
-        Counted::Refused(n, p) => refuse(text, b"", n, p),
-        Counted::Count(n) => {
+        Err(e) => refuse(text, b"", e),
+        Ok(n) => {
             let end = put_count(text, 0, row, channel, resource, n);
             conclude(text, b"", end, 0)
         }
@@ -80,14 +72,24 @@ pub fn make_count(file: &[u8], row: usize, channel: u64, resource: u64, text: &m
     let mut nodes = program::node_table();
     let mut items = program::item_table();
     match file::read_file(file, &mut nodes, &mut items) {
-        Read::Refused(n, p) => refuse(text, b"", n, p.0),
-        Read::Is(s) => {
+        Err(e) => refuse(text, b"", e),
+        Ok(s) => {
             if s.items <= row {
-                return refuse(text, b"", cursor::NO_SUCH_ROW, 0);
+                return refuse(text, b"", Refusal(Reason::NoSuchRow, 0));
             }
             let item = rows::item_at(&items, row);
             make_row_count(file, row, item, channel, resource, text)
         }
+    }
+}
+
+// Any fault of a field is that of the description, at the field's place.
+fn described<T>(read: Result<T, Refusal>) -> Result<T, Refusal>
+    ensures { result ≡ described read }
+{
+    match read {
+        Err(e) => Err(Refusal(Reason::BadDescription, e.1)),
+        Ok(x) => Ok(x),
     }
 }
 
@@ -101,33 +103,34 @@ fn put_table(
     row: usize,
     channels: u64,
     resources: u64,
-) -> Put
+) -> Result<usize, Refusal>
     requires { (end.0 ≤ length file.now) × (channels < 2 ^ 28) × (resources < 2 ^ 28) }
     ensures { Puts out.old out.new to (needs_in row (run (table channels resources end.0) file.now c.at.0)) result }
 {
     let count = channels * resources;
     let mut next = to;
     let mut at = c;
-    let mut i = 0;
-    while i < count {
-        match at.number(file, end, cursor::CUT_SHORT) {
-            Numbered::Refused(_, p) => return Put::Refused(cursor::BAD_DESCRIPTION, p.0),
-            Numbered::Is(needed, d) => {
-                next = put_count(out, next, row, i / resources, i % resources, needed);
-                at = d;
-            }
-        }
-        i = i + 1;
+    for i in 0..count {
+        let (needed, d) = described(at.number(file, end, Reason::CutShort))?;
+        next = put_count(out, next, row, i / resources, i % resources, needed);
+        at = d;
     }
     let after = at.at;
     if after.0 < end.0 {
-        return Put::Refused(cursor::BAD_DESCRIPTION, after.0);
+        return Err(Refusal(Reason::BadDescription, after.0));
     }
-    Put::To(next)
+    Ok(next)
 }
 
 // Puts the lines of a content description, which is the data of an item row.
-fn put_counts(out: &mut [u8], to: usize, file: &[u8], row: usize, place: usize, size: usize) -> Put
+fn put_counts(
+    out: &mut [u8],
+    to: usize,
+    file: &[u8],
+    row: usize,
+    place: usize,
+    size: usize,
+) -> Result<usize, Refusal>
     requires { place + size ≤ length file.now }
     ensures { Puts out.old out.new to (needs_in row (run (description (place + size)) file.now place)) result }
 {
@@ -135,71 +138,60 @@ fn put_counts(out: &mut [u8], to: usize, file: &[u8], row: usize, place: usize, 
     let c = Cursor {
         at: FilePlace(place),
     };
-    match c.number(file, end, cursor::CUT_SHORT) {
-        Numbered::Refused(_, p) => Put::Refused(cursor::BAD_DESCRIPTION, p.0),
-        Numbered::Is(_, d) => match d.number(file, end, cursor::CUT_SHORT) {
-            Numbered::Refused(_, p) => Put::Refused(cursor::BAD_DESCRIPTION, p.0),
-            Numbered::Is(channels, e) => match e.number(file, end, cursor::CUT_SHORT) {
-                Numbered::Refused(_, p) => Put::Refused(cursor::BAD_DESCRIPTION, p.0),
-                Numbered::Is(resources, g) => match description::read_lists(
-                    g, file, end, resources,
-                ) {
-                    Passed::Refused(_, p) => Put::Refused(cursor::BAD_DESCRIPTION, p.0),
-                    Passed::To(h) => put_table(out, to, h, file, end, row, channels, resources),
-                },
-            },
-        },
-    }
+    let (_, d) = described(c.number(file, end, Reason::CutShort))?;
+    let (channels, e) = described(d.number(file, end, Reason::CutShort))?;
+    let (resources, g) = described(e.number(file, end, Reason::CutShort))?;
+    let h = described(description::read_lists(g, file, end, resources))?;
+    put_table(out, to, h, file, end, row, channels, resources)
 }
 
 // Whether a row is a content description.
+#[tactic(auto, unfolding(description::specs::Row::is_description))]
 fn is_description(row: Item) -> bool
     ensures { result ≡ is_description row }
 {
-    if !description::is_field(row, 13) {
-        return false;
-    }
-    description::is_binary(row)
+    description::is_field(row, 13) && description::is_binary(row)
 }
 
 // Puts the lines of an item row, if it is a visible content description.
-fn put_row_needs(out: &mut [u8], to: usize, file: &[u8], row: usize, item: Item) -> Put
+fn put_row_needs(
+    out: &mut [u8],
+    to: usize,
+    file: &[u8],
+    row: usize,
+    item: Item,
+) -> Result<usize, Refusal>
     requires { ItemIn (length file.now) item }
     ensures { Puts out.old out.new to (row_needs file.now row item) result }
 {
     if item.format % 2 == 1 {
-        return Put::To(to);
+        return Ok(to);
     }
     if !is_description(item) {
-        return Put::To(to);
+        return Ok(to);
     }
     put_counts(out, to, file, row, item.place as usize, item.size as usize)
 }
 
 // Puts the lines of all item rows.
-fn put_needs(out: &mut [u8], file: &[u8], items: &[u64], count: usize) -> Put
+fn put_needs(out: &mut [u8], file: &[u8], items: &[u64], count: usize) -> Result<usize, Refusal>
     requires { ItemRows (length file.now) count items.now }
     ensures { Puts out.old out.new 0 (needs_from file.now 0 (items_in count items.now)) result }
 {
     let mut next = 0;
-    let mut i = 0;
-    while i < count {
-        match put_row_needs(out, next, file, i, rows::item_at(items, i)) {
-            Put::Refused(n, p) => return Put::Refused(n, p),
-            Put::To(to) => next = to,
-        }
-        i = i + 1;
+    for i in 0..count {
+        next = put_row_needs(out, next, file, i, rows::item_at(items, i))?;
     }
-    Put::To(next)
+    Ok(next)
 }
 
 // The answer for lines that were put.
-pub fn put_answered(text: &mut [u8], put: Put) -> Made
+pub fn put_answered(text: &mut [u8], put: Result<usize, Refusal>) -> Made
     ensures { (o : List ℕ) (x : Result (List ℕ)) → Puts o text.old 0 x put → Gives (length o) result text.new (printed (length o) [] plainly x) }
 {
     match put {
-        Put::Refused(n, p) => refuse(text, b"", n, p),
-        Put::To(end) => conclude(text, b"", end, 0),
+        Err(e) => refuse(text, b"", e),
+        Ok(end) => conclude(text, b"", end, 0),
     }
 }
 
@@ -210,8 +202,8 @@ pub fn make_needs(file: &[u8], text: &mut [u8]) -> Made
     let mut nodes = program::node_table();
     let mut items = program::item_table();
     match file::read_file(file, &mut nodes, &mut items) {
-        Read::Refused(n, p) => refuse(text, b"", n, p.0),
-        Read::Is(s) => {
+        Err(e) => refuse(text, b"", e),
+        Ok(s) => {
             let put = put_needs(text, file, &items, s.items);
             put_answered(text, put)
         }
@@ -227,7 +219,7 @@ fn make_item_needs(file: &[u8], row: usize, item: Item, text: &mut [u8]) -> Made
         return hidden(text);
     }
     if !is_description(item) {
-        return refuse(text, b"", cursor::NO_SUCH_ITEM, 0);
+        return refuse(text, b"", Refusal(Reason::NoSuchItem, 0));
     }
     let put = put_counts(text, 0, file, row, item.place as usize, item.size as usize);
     put_answered(text, put)
@@ -239,10 +231,10 @@ pub fn make_row_needs(file: &[u8], row: usize, text: &mut [u8]) -> Made
     let mut nodes = program::node_table();
     let mut items = program::item_table();
     match file::read_file(file, &mut nodes, &mut items) {
-        Read::Refused(n, p) => refuse(text, b"", n, p.0),
-        Read::Is(s) => {
+        Err(e) => refuse(text, b"", e),
+        Ok(s) => {
             if s.items <= row {
-                return refuse(text, b"", cursor::NO_SUCH_ROW, 0);
+                return refuse(text, b"", Refusal(Reason::NoSuchRow, 0));
             }
             make_item_needs(file, row, rows::item_at(&items, row), text)
         }

@@ -1,15 +1,16 @@
 // A node up to its contents: its three numbers, metadata, unpackers, reference.
 #![tactic(auto)]
 
-ghost use Rattle.std.specs.Prelude.{◌≡◌, not, ◌||◌, eqb, ℕ, ◌≤◌, ◌<◌, ◌+◌, length};
+ghost use Rattle.std.specs.Prelude.{◌≡◌, ◌||◌, eqb, ℕ, ◌≤◌, ◌<◌, ◌+◌, length};
 ghost use Rattle.machine.specs.Machine.{run};
 ghost use Rattle.cursor.specs.Told.{Readable, pass_told};
 ghost use Rattle.metadata.specs.Told.{Room};
 ghost use Rattle.node.specs.Node.{header_length, head, value, identifier, unpacker, entries, unpackers, resource, node_place, uri_place, target, reference, rest, row_of};
 ghost use Rattle.node.specs.Told.{head_told, CommonTold, unpacker_told, unpackers_told, reference_told, rest_told, front_run, FrontTold};
 
-use cursor::{Cursor, FilePlace, Node, NodePlace, Numbered, Passed};
-use metadata::{Made, RowsResult, Scope};
+use cursor::{Cursor, FilePlace, Node, NodePlace};
+use metadata::{Made, Scope};
+use refusals::{Reason, Refusal};
 
 // The bounds of a node: it ends at or before `end` and not before `least`. A detached one ends at or before `taken`, where another
 // begins, and `offset` is the place of the number that leads to it.
@@ -31,23 +32,11 @@ pub struct Head {
     pub header: NodePlace,
 }
 
-#[derive(Clone, Copy)]
-pub enum Headed {
-    Is(Head, Cursor),
-    Refused(u64, FilePlace),
-}
-
 // Where the unpackers stand, and how many there are.
 #[derive(Clone, Copy)]
 pub struct Unpackers {
     pub place: FilePlace,
     pub count: usize,
-}
-
-#[derive(Clone, Copy)]
-pub enum Unpacked {
-    Is(Unpackers, Cursor),
-    Refused(u64, FilePlace),
 }
 
 // A reference, and what it leads to.
@@ -58,19 +47,6 @@ pub struct Reference {
     pub extent: u64,
 }
 
-#[derive(Clone, Copy)]
-pub enum ReferenceResult {
-    Is(Reference, Cursor),
-    Refused(u64, FilePlace),
-}
-
-// The unpackers and the reference, and the cursor after them.
-#[derive(Clone, Copy)]
-pub enum RestResult {
-    Is(Unpackers, Reference, Cursor),
-    Refused(u64, FilePlace),
-}
-
 // A node's row, and the rows made by then, its own not among them.
 #[derive(Clone, Copy)]
 pub struct Front {
@@ -78,24 +54,9 @@ pub struct Front {
     pub made: Made,
 }
 
-#[derive(Clone, Copy)]
-pub enum FrontResult {
-    Is(Front, Cursor),
-    Refused(u64, FilePlace),
-}
-
-// Whether a node with this number of contained items is a folder, and detached.
-fn is_detached_folder(contained: u64, detached: u64) -> bool
-    ensures { result ≡ not (eqb contained 0 || eqb detached 0) }
-{
-    if contained == 0 {
-        return false;
-    }
-    detached != 0
-}
-
 // NodeLength, NodeContainedItems and NodeHeaderLength of a node with these bounds.
-fn read_head(c: Cursor, file: &[u8], s: Bounds) -> Headed
+#[tactic(auto, using(header::proofs::Reading::reading), unfolding(crate::specs::Node::head))]
+fn read_head(c: Cursor, file: &[u8], s: Bounds) -> Result<(Head, Cursor), Refusal>
     requires { Readable s.end.0 file.now }
     ensures { head_told result ≡ run (head s) file.now c.at.0 }
 {
@@ -104,93 +65,69 @@ fn read_head(c: Cursor, file: &[u8], s: Bounds) -> Headed
     let least = s.least;
     let taken = s.taken;
     let offset = s.offset;
-    match c.number(file, end, cursor::CUT_SHORT) {
-        Numbered::Refused(n, p) => Headed::Refused(n, p),
-        Numbered::Is(length, d) => {
-            let size = NodePlace(length as usize);
-            let stop = start.of(size);
-            if end.0 < stop.0 {
-                return Headed::Refused(cursor::BAD_NODE, start);
-            }
-            if stop.0 < least.0 {
-                return Headed::Refused(cursor::BAD_NODE, start);
-            }
-            if taken.0 < stop.0 {
-                return Headed::Refused(cursor::BAD_DETACHED, offset);
-            }
-            match d.number(file, stop, cursor::CUT_SHORT) {
-                Numbered::Refused(n, p) => Headed::Refused(n, p),
-                Numbered::Is(contained, e) => {
-                    if is_detached_folder(contained, s.detached) {
-                        return Headed::Refused(cursor::BAD_DETACHED, offset);
-                    }
-                    read_header_length(e, file, start, size, contained)
-                }
-            }
-        }
+    let (length, d) = c.number(file, end, Reason::CutShort)?;
+    let size = NodePlace(length as usize);
+    let stop = start.of(size);
+    if end.0 < stop.0 || stop.0 < least.0 {
+        return Err(Refusal(Reason::BadNode, start.0));
     }
+    if taken.0 < stop.0 {
+        return Err(Refusal(Reason::BadDetached, offset.0));
+    }
+    let (contained, e) = d.number(file, stop, Reason::CutShort)?;
+    if contained != 0 && s.detached != 0 {
+        return Err(Refusal(Reason::BadDetached, offset.0));
+    }
+    read_header_length(e, file, start, size, contained)
 }
 
 // NodeHeaderLength of a node that starts at `start`.
+#[tactic(auto, using(header::proofs::Reading::reading), unfolding(crate::specs::Node::header_length))]
 fn read_header_length(
     c: Cursor,
     file: &[u8],
     start: FilePlace,
     size: NodePlace,
     contained: u64,
-) -> Headed
+) -> Result<(Head, Cursor), Refusal>
     requires { Readable (start.0 + size.0) file.now }
     ensures { head_told result ≡ run (header_length start.0 size.0 contained) file.now c.at.0 }
 {
     let place = c.at;
-    match c.number(file, start.of(size), cursor::CUT_SHORT) {
-        Numbered::Refused(n, p) => Headed::Refused(n, p),
-        Numbered::Is(length, d) => {
-            let header = NodePlace(length as usize);
-            if size.0 < header.0 {
-                return Headed::Refused(cursor::BAD_NODE, place);
-            }
-            let inner = start.of(header);
-            let first = d.at;
-            if inner.0 < first.0 {
-                return Headed::Refused(cursor::BAD_NODE, place);
-            }
-            let is = Head {
-                size,
-                contained,
-                header,
-            };
-            Headed::Is(is, d)
-        }
+    let (length, d) = c.number(file, start.of(size), Reason::CutShort)?;
+    let header = NodePlace(length as usize);
+    if size.0 < header.0 || start.of(header).0 < d.at.0 {
+        return Err(Refusal(Reason::BadNode, place.0));
     }
+    let is = Head {
+        size,
+        contained,
+        header,
+    };
+    Ok((is, d))
 }
 
 // A number whose value is not kept.
-fn read_value(c: Cursor, file: &[u8], end: FilePlace) -> Passed
+#[tactic(auto, using(header::proofs::Reading::reading), unfolding(crate::specs::Node::value))]
+fn read_value(c: Cursor, file: &[u8], end: FilePlace) -> Result<Cursor, Refusal>
     requires { end.0 ≤ length file.now }
     ensures { pass_told result ≡ run (value end.0) file.now c.at.0 }
 {
-    match c.number(file, end, cursor::CUT_SHORT) {
-        Numbered::Refused(n, p) => Passed::Refused(n, p),
-        Numbered::Is(_, d) => Passed::To(d),
-    }
+    let (_, d) = c.number(file, end, Reason::CutShort)?;
+    Ok(d)
 }
 
 // What names an unpacker of the kind.
-fn read_identifier(c: Cursor, file: &[u8], kind: u64, end: FilePlace) -> Passed
+#[tactic(auto, using(header::proofs::Reading::reading), unfolding(crate::specs::Node::identifier))]
+fn read_identifier(c: Cursor, file: &[u8], kind: u64, end: FilePlace) -> Result<Cursor, Refusal>
     requires { end.0 ≤ length file.now }
     ensures { pass_told result ≡ run (identifier kind end.0) file.now c.at.0 }
 {
-    if kind == 3 {
-        return c.guid(file, end);
+    match kind {
+        1 => read_value(c.manufacturer(file, end)?, file, end),
+        3 => c.guid(file, end),
+        _ => read_value(c, file, end),
     }
-    if kind == 1 {
-        return match c.manufacturer(file, end) {
-            Passed::Refused(n, p) => Passed::Refused(n, p),
-            Passed::To(d) => read_value(d, file, end),
-        };
-    }
-    read_value(c, file, end)
 }
 
 // Whether a number alone names an unpacker of the kind.
@@ -228,31 +165,26 @@ fn is_common(c: Cursor, file: &[u8], end: FilePlace) -> bool
 }
 
 // An unpacker: its kind, what names it, its decoded size.
-fn read_unpacker(c: Cursor, file: &[u8], end: FilePlace) -> Passed
+#[tactic(auto, using(header::proofs::Reading::reading), unfolding(crate::specs::Node::unpacker))]
+fn read_unpacker(c: Cursor, file: &[u8], end: FilePlace) -> Result<Cursor, Refusal>
     requires { Readable end.0 file.now × (c.at.0 < end.0) }
     ensures { (n : ℕ) → unpacker_told result n ≡ run (unpacker end.0 n) file.now c.at.0 }
 {
     // To pass one in the common form at once is faster than to read its numbers. What follows is the rule for any unpacker.
     if is_common(c, file, end) {
-        return Passed::To(c.on(3));
+        return Ok(c.on(3));
     }
     let place = c.at;
-    match c.number(file, end, cursor::CUT_SHORT) {
-        Numbered::Refused(n, p) => Passed::Refused(n, p),
-        Numbered::Is(kind, d) => {
-            if 3 < kind {
-                return Passed::Refused(cursor::BAD_UNPACKER, place);
-            }
-            match read_identifier(d, file, kind, end) {
-                Passed::Refused(n, p) => Passed::Refused(n, p),
-                Passed::To(e) => read_value(e, file, end),
-            }
-        }
+    let (kind, d) = c.number(file, end, Reason::CutShort)?;
+    if 3 < kind {
+        return Err(Refusal(Reason::BadUnpacker, place.0));
     }
+    let e = read_identifier(d, file, kind, end)?;
+    read_value(e, file, end)
 }
 
 // Unpackers end to end up to `end`; they begin at c.
-fn read_entries(c: Cursor, file: &[u8], end: FilePlace) -> Unpacked
+fn read_entries(c: Cursor, file: &[u8], end: FilePlace) -> Result<(Unpackers, Cursor), Refusal>
     requires { Readable end.0 file.now }
     ensures { unpackers_told result ≡ run (entries end.0) file.now c.at.0 }
 {
@@ -262,171 +194,153 @@ fn read_entries(c: Cursor, file: &[u8], end: FilePlace) -> Unpacked
     let mut at = place.0;
     let mut count: usize = 0;
     while at < stop {
-        match read_unpacker(next, file, end) {
-            Passed::Refused(n, p) => return Unpacked::Refused(n, p),
-            Passed::To(d) => {
-                next = d;
-                at = d.at.0;
-            }
-        }
+        next = read_unpacker(next, file, end)?;
+        at = next.at.0;
         count = count + 1;
     }
-    let is = Unpackers { place, count };
-    Unpacked::Is(is, next)
+    Ok((Unpackers { place, count }, next))
 }
 
 // The unpackers of a node whose header ends at `end`.
-fn read_unpackers(c: Cursor, file: &[u8], contained: u64, end: FilePlace) -> Unpacked
+#[tactic(auto, using(header::proofs::Reading::reading), unfolding(crate::specs::Node::unpackers))]
+fn read_unpackers(
+    c: Cursor,
+    file: &[u8],
+    contained: u64,
+    end: FilePlace,
+) -> Result<(Unpackers, Cursor), Refusal>
     requires { Readable end.0 file.now }
     ensures { unpackers_told result ≡ run (unpackers contained end.0) file.now c.at.0 }
 {
-    let place = c.at;
-    match c.block(file, end, cursor::BAD_NODE) {
-        Numbered::Refused(n, p) => Unpacked::Refused(n, p),
-        Numbered::Is(size, d) => {
-            // Most nodes have no unpackers. To answer here is faster than a loop that reads none.
-            if size == 0 {
-                let first = d.at;
-                let none = Unpackers {
-                    place: first,
-                    count: 0,
-                };
-                return Unpacked::Is(none, d);
-            }
-            if contained != 0 {
-                return Unpacked::Refused(cursor::BAD_FOLDER, place);
-            }
-            let after = d.on(size);
-            let stop = after.at;
-            read_entries(d, file, stop)
-        }
+    let (size, d) = c.block(file, end, Reason::BadNode)?;
+    // Most nodes have no unpackers. To answer here is faster than a loop that reads none.
+    if size == 0 {
+        let first = d.at;
+        let none = Unpackers {
+            place: first,
+            count: 0,
+        };
+        return Ok((none, d));
     }
+    if contained != 0 {
+        return Err(Refusal(Reason::BadFolder, c.at.0));
+    }
+    let after = d.on(size);
+    let stop = after.at;
+    read_entries(d, file, stop)
 }
 
 // Reference 2: a place of the file at or after the header's end; its extent runs to the file's end.
-fn read_resource(c: Cursor, file: &[u8], header_end: FilePlace, end: FilePlace) -> ReferenceResult
+#[tactic(auto, using(header::proofs::Reading::reading), unfolding(crate::specs::Node::resource))]
+fn read_resource(
+    c: Cursor,
+    file: &[u8],
+    header_end: FilePlace,
+    end: FilePlace,
+) -> Result<(Reference, Cursor), Refusal>
     requires { end.0 ≤ length file.now }
     ensures { reference_told result ≡ run (resource header_end.0 (length file.now) end.0) file.now c.at.0 }
 {
     let place = c.at;
-    match c.number(file, end, cursor::CUT_SHORT) {
-        Numbered::Refused(n, p) => ReferenceResult::Refused(n, p),
-        Numbered::Is(offset, d) => {
-            let size = file.len();
-            if (offset as usize) < header_end.0 {
-                return ReferenceResult::Refused(cursor::BAD_TARGET, place);
-            }
-            if size < offset as usize {
-                return ReferenceResult::Refused(cursor::BAD_TARGET, place);
-            }
-            let is = Reference {
-                kind: 2,
-                target: offset,
-                extent: (size - offset as usize) as u64,
-            };
-            ReferenceResult::Is(is, d)
-        }
+    let (offset, d) = c.number(file, end, Reason::CutShort)?;
+    let size = file.len();
+    if (offset as usize) < header_end.0 || size < offset as usize {
+        return Err(Refusal(Reason::BadTarget, place.0));
     }
+    let is = Reference {
+        kind: 2,
+        target: offset,
+        extent: (size - offset as usize) as u64,
+    };
+    Ok((is, d))
 }
 
 // Reference 3: the place of a node's first byte.
-fn read_node_place(c: Cursor, file: &[u8], end: FilePlace) -> ReferenceResult
+#[tactic(auto, using(header::proofs::Reading::reading), unfolding(crate::specs::Node::node_place))]
+fn read_node_place(c: Cursor, file: &[u8], end: FilePlace) -> Result<(Reference, Cursor), Refusal>
     requires { end.0 ≤ length file.now }
     ensures { reference_told result ≡ run (node_place end.0) file.now c.at.0 }
 {
-    match c.number(file, end, cursor::CUT_SHORT) {
-        Numbered::Refused(n, p) => ReferenceResult::Refused(n, p),
-        Numbered::Is(offset, d) => {
-            let is = Reference {
-                kind: 3,
-                target: offset,
-                extent: 0,
-            };
-            ReferenceResult::Is(is, d)
-        }
-    }
+    let (offset, d) = c.number(file, end, Reason::CutShort)?;
+    let is = Reference {
+        kind: 3,
+        target: offset,
+        extent: 0,
+    };
+    Ok((is, d))
 }
 
 // Reference 4: an XString with a URI.
-fn read_uri(c: Cursor, file: &[u8], end: FilePlace) -> ReferenceResult
+#[tactic(auto, using(header::proofs::Reading::reading), unfolding(crate::specs::Node::uri_place))]
+fn read_uri(c: Cursor, file: &[u8], end: FilePlace) -> Result<(Reference, Cursor), Refusal>
     requires { Readable end.0 file.now }
     ensures { reference_told result ≡ run (uri_place end.0) file.now c.at.0 }
 {
-    match c.block(file, end, cursor::CUT_SHORT) {
-        Numbered::Refused(n, p) => ReferenceResult::Refused(n, p),
-        Numbered::Is(size, d) => {
-            let place = d.at;
-            let is = Reference {
-                kind: 4,
-                target: place.0 as u64,
-                extent: size,
-            };
-            ReferenceResult::Is(is, d.on(size))
-        }
-    }
+    let (size, d) = c.block(file, end, Reason::CutShort)?;
+    let place = d.at;
+    let is = Reference {
+        kind: 4,
+        target: place.0 as u64,
+        extent: size,
+    };
+    Ok((is, d.on(size)))
 }
 
 // What a reference other than 1 leads to, in a node that ends at `end`.
+#[tactic(auto, using(header::proofs::Reading::reading), unfolding(crate::specs::Node::target))]
 fn read_target(
     c: Cursor,
     file: &[u8],
     header_end: FilePlace,
     kind: u64,
     end: FilePlace,
-) -> ReferenceResult
+) -> Result<(Reference, Cursor), Refusal>
     requires { Readable end.0 file.now × (1 < kind) }
     ensures { reference_told result ≡ run (target header_end.0 (length file.now) kind end.0) file.now c.at.0 }
 {
-    if kind == 2 {
-        return read_resource(c, file, header_end, end);
+    match kind {
+        2 => read_resource(c, file, header_end, end),
+        3 => read_node_place(c, file, end),
+        _ => read_uri(c, file, end),
     }
-    if kind == 3 {
-        return read_node_place(c, file, end);
-    }
-    read_uri(c, file, end)
 }
 
 // ReferenceTypeID and what it leads to; a folder uses reference 1.
+#[tactic(auto, using(header::proofs::Reading::reading), unfolding(crate::specs::Node::reference))]
 fn read_reference(
     c: Cursor,
     file: &[u8],
     header_end: FilePlace,
     contained: u64,
     end: FilePlace,
-) -> ReferenceResult
+) -> Result<(Reference, Cursor), Refusal>
     requires { Readable end.0 file.now }
     ensures { reference_told result ≡ run (reference header_end.0 (length file.now) contained end.0) file.now c.at.0 }
 {
     let place = c.at;
-    match c.number(file, end, cursor::CUT_SHORT) {
-        Numbered::Refused(n, p) => ReferenceResult::Refused(n, p),
-        Numbered::Is(kind, d) => {
-            // Most nodes use reference 1, so it is asked for first: the contents follow, to the node's end.
-            if kind == 1 {
-                let here = d.at;
-                let extent = end.0 - here.0;
-                let is = Reference {
-                    kind,
-                    target: here.0 as u64,
-                    extent: extent as u64,
-                };
-                return ReferenceResult::Is(is, d);
-            }
-            if kind == 0 {
-                return ReferenceResult::Refused(cursor::BAD_REFERENCE, place);
-            }
-            if 4 < kind {
-                return ReferenceResult::Refused(cursor::BAD_REFERENCE, place);
-            }
-            if contained != 0 {
-                return ReferenceResult::Refused(cursor::BAD_FOLDER, place);
-            }
-            read_target(d, file, header_end, kind, end)
-        }
+    let (kind, d) = c.number(file, end, Reason::CutShort)?;
+    // Most nodes use reference 1, so it is asked for first: the contents follow, to the node's end.
+    if kind == 1 {
+        let here = d.at;
+        let extent = end.0 - here.0;
+        let is = Reference {
+            kind,
+            target: here.0 as u64,
+            extent: extent as u64,
+        };
+        return Ok((is, d));
     }
+    if kind == 0 || 4 < kind {
+        return Err(Refusal(Reason::BadReference, place.0));
+    }
+    if contained != 0 {
+        return Err(Refusal(Reason::BadFolder, place.0));
+    }
+    read_target(d, file, header_end, kind, end)
 }
 
 // The unpackers, which end where the header does, and the reference.
+#[tactic(auto, using(header::proofs::Reading::reading), unfolding(crate::specs::Node::rest))]
 fn read_rest(
     c: Cursor,
     file: &[u8],
@@ -434,23 +348,17 @@ fn read_rest(
     contained: u64,
     inner: FilePlace,
     stop: FilePlace,
-) -> RestResult
+) -> Result<(Unpackers, Reference, Cursor), Refusal>
     requires { Readable inner.0 file.now × Readable stop.0 file.now }
     ensures { rest_told result ≡ run (rest header_end.0 (length file.now) contained inner.0 stop.0) file.now c.at.0 }
 {
-    match read_unpackers(c, file, contained, inner) {
-        Unpacked::Refused(n, p) => RestResult::Refused(n, p),
-        Unpacked::Is(u, d) => {
-            let place = d.at;
-            if place.0 < inner.0 {
-                return RestResult::Refused(cursor::BYTES_LEFT, place);
-            }
-            match read_reference(d, file, header_end, contained, stop) {
-                ReferenceResult::Refused(n, p) => RestResult::Refused(n, p),
-                ReferenceResult::Is(r, e) => RestResult::Is(u, r, e),
-            }
-        }
+    let (u, d) = read_unpackers(c, file, contained, inner)?;
+    let place = d.at;
+    if place.0 < inner.0 {
+        return Err(Refusal(Reason::BytesLeft, place.0));
     }
+    let (r, e) = read_reference(d, file, header_end, contained, stop)?;
+    Ok((u, r, e))
 }
 
 // A node's row.
@@ -497,45 +405,23 @@ pub fn read_front(
     depth: usize,
     s: Bounds,
     made: Made,
-) -> FrontResult
+) -> Result<(Front, Cursor), Refusal>
     requires { Room scope file.now types.now items.old s.end.0 made }
     ensures { FrontTold (front_run scope types.now file.now parent depth s made c.at.0) made scope.limits result items.old items.new }
 {
     let start = c.at;
-    match read_head(c, file, s) {
-        Headed::Refused(n, p) => FrontResult::Refused(n, p),
-        Headed::Is(h, d) => {
-            let inner = start.of(h.header);
-            match metadata::read_metadata(
-                d, file, types, items, scope, made.nodes, inner, made.items,
-            ) {
-                RowsResult::Refused(n, p) => FrontResult::Refused(n, p),
-                RowsResult::Done(rows, e) => {
-                    let stop = start.of(h.size);
-                    let header_end = scope.header_end;
-                    match read_rest(e, file, header_end, h.contained, inner, stop) {
-                        RestResult::Refused(n, p) => FrontResult::Refused(n, p),
-                        RestResult::Is(u, r, g) => {
-                            let row = row_of(
-                                start,
-                                h,
-                                parent,
-                                depth,
-                                s.detached,
-                                r,
-                                u,
-                                rows - made.items,
-                            );
-                            let m = Made {
-                                nodes: made.nodes,
-                                items: rows,
-                            };
-                            let is = Front { row, made: m };
-                            FrontResult::Is(is, g)
-                        }
-                    }
-                }
-            }
-        }
-    }
+    let (h, d) = read_head(c, file, s)?;
+    let inner = start.of(h.header);
+    let (rows, e) = metadata::read_metadata(
+        d, file, types, items, scope, made.nodes, inner, made.items,
+    )?;
+    let stop = start.of(h.size);
+    let header_end = scope.header_end;
+    let (u, r, g) = read_rest(e, file, header_end, h.contained, inner, stop)?;
+    let row = row_of(start, h, parent, depth, s.detached, r, u, rows - made.items);
+    let m = Made {
+        nodes: made.nodes,
+        items: rows,
+    };
+    Ok((Front { row, made: m }, g))
 }

@@ -8,15 +8,16 @@ use native.Mathlib.Omega.{arith}
 use lib.ListN.{length, take}
 use lib.Seq.{take-append_seam}
 use borrow.Author.Tests.{le-leb, lt-leb}
-use Rattle.cursor.specs.declared.FilePlace.{FilePlace}
+use Rattle.std.proofs.Common as std
+use Rattle.std.proofs.Common.{Ok, Err}
+use Rattle.refusals.specs.declared.Refusal.{Refusal}
 use Rattle.cursor.specs.declared.Item.{Item}
 use Rattle.metadata.specs.Tables.{full_nodes, full_items, limits}
 use Rattle.rows.specs.Rows.{item_width, item_from}
+use Rattle.room.specs.Told.{told}
 use Rattle.room.specs.Counts.{Counts}
 use Rattle.room.proofs.Counting.{wrote-front, wrote-past}
 use Rattle.file.specs.Reading.{read_of, read_file}
-use Rattle.file.specs.declared.Read.{Read}
-use Rattle.file.specs.declared.Read.TheVariants as read
 use Rattle.file.specs.declared.Summary.{Summary}
 use Rattle.file.proofs.Rows.{Standing}
 use Rattle.text.specs.Text.{tabbed, number}
@@ -30,7 +31,7 @@ use Rattle.notes.specs.Changes.{row_text, shown_text, title_field, changes_text}
 -- ---- the text of an item row
 
 module _ (f : List ℕ) {n i : ℕ} (en : full_nodes ≡ n) (ei : full_items ≡ i) (row : ℕ) where
-  pub text-refused : {r : Read} → r ≡ read_of (read_file (limits n i) f) → {m : ℕ} {p : FilePlace} → r ≡ read.Refused m p → [] ≡ row_text row f (reads f)
+  pub text-refused : {r : std.Result Summary Refusal} → told r ≡ read_of (read_file (limits n i) f) → {k : Refusal} → r ≡ Err k → [] ≡ row_text row f (reads f)
   unfolding row_text
   text-refused e k = rw (refused f en ei e k)
 

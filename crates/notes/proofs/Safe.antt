@@ -9,92 +9,23 @@ use native.Mathlib.Omega.{arith}
 use lib.ListN.{length, get_or, drop, take, drop_of_length-le}
 use lib.Seq.{drop-cons, drop-drop}
 use borrow.Author.Tests.{le-leb, lt-leb}
+use Rattle.std.proofs.Common.{Option, Some, None}
 use Rattle.room.specs.Parts.{part}
 use Rattle.utf16.specs.Unicode.{Char, char, none, first8, bytes_all}
 use Rattle.utf16.specs.Told.{char_told}
-use Rattle.utf16.specs.declared.Character.{Character}
-use Rattle.utf16.specs.declared.Character.TheVariants as character
 use Rattle.utf16.proofs.Eight.{lead-one, form8}
 use Rattle.utf16.proofs.Converting.{char-in}
 use Rattle.text.specs.Text.{plain, hexed, escaped, escaped_part}
 use Rattle.text.proofs.Escapes.{plain-low, plain-high, escaped-hex}
 use Rattle.notes.specs.Safe.{is_safe, size_if, safe_size, Piece, piece, pieces, cut_at, safe_text}
 
--- ---- the ranges of characters
+-- ---- a safe character
 
-module _ (c : ℕ) where
-  pub safe_control : c < 0x20 → false ≡ is_safe c
-  unfolding is_safe
-  safe_control l = simp (le-leb c 0x1F (omega arith))
-
-  pub safe_ascii : 0x20 ≤ c → c < 0x7F → true ≡ is_safe c
-  unfolding is_safe
-  safe_ascii l m = simp (lt-leb c 0x1F (omega arith), lt-leb 0x7F c m, lt-leb 0x2028 c (omega arith), lt-leb 0x2066 c (omega arith))
-
-  pub safe_delete : 0x7F ≤ c → c < 0xA0 → false ≡ is_safe c
-  unfolding is_safe
-  safe_delete l m = simp (lt-leb c 0x1F (omega arith), le-leb 0x7F c l, le-leb c 0x9F (omega arith))
-
-  pub safe_below : 0xA0 ≤ c → c < 0x2028 → true ≡ is_safe c
-  unfolding is_safe
-  safe_below l m = simp (lt-leb c 0x1F (omega arith), le-leb 0x7F c (omega arith), lt-leb c 0x9F (omega arith), lt-leb 0x2028 c m, lt-leb 0x2066 c (omega arith))
-
-  pub safe_turn : 0x2028 ≤ c → c < 0x202F → false ≡ is_safe c
-  unfolding is_safe
-  safe_turn l m = simp (lt-leb c 0x1F (omega arith), le-leb 0x7F c (omega arith), lt-leb c 0x9F (omega arith), le-leb 0x2028 c l, le-leb c 0x202E (omega arith))
-
-  pub safe_between : 0x202F ≤ c → c < 0x2066 → true ≡ is_safe c
-  unfolding is_safe
-  safe_between l m = simp (
-    lt-leb c 0x1F (omega arith),
-    le-leb 0x7F c (omega arith),
-    lt-leb c 0x9F (omega arith),
-    le-leb 0x2028 c (omega arith),
-    lt-leb c 0x202E (omega arith),
-    lt-leb 0x2066 c m,
-  )
-
-  pub safe_isolate : 0x2066 ≤ c → c < 0x206A → false ≡ is_safe c
-  unfolding is_safe
-  safe_isolate l m = simp (
-    lt-leb c 0x1F (omega arith),
-    le-leb 0x7F c (omega arith),
-    lt-leb c 0x9F (omega arith),
-    le-leb 0x2028 c (omega arith),
-    lt-leb c 0x202E (omega arith),
-    le-leb 0x2066 c l,
-    le-leb c 0x2069 (omega arith),
-  )
-
-  pub safe_above : 0x206A ≤ c → true ≡ is_safe c
-  unfolding is_safe
-  safe_above l = simp (
-    lt-leb c 0x1F (omega arith),
-    le-leb 0x7F c (omega arith),
-    lt-leb c 0x9F (omega arith),
-    le-leb 0x2028 c (omega arith),
-    lt-leb c 0x202E (omega arith),
-    le-leb 0x2066 c (omega arith),
-    lt-leb c 0x2069 (omega arith),
-  )
+pub safe_ascii : (c : ℕ) → 0x20 ≤ c → c < 0x7F → true ≡ is_safe c
+unfolding is_safe
+safe_ascii c l m = simp (lt-leb c 0x1F (omega arith), lt-leb 0x7F c m, lt-leb 0x2028 c (omega arith), lt-leb 0x2066 c (omega arith))
 
 -- ---- the character at a place
-
-module _ (s : List ℕ) {r : Character} (e : char_told r ≡ first8 s) where
-  pub size-bad : r ≡ character.Bad → 0 ≡ safe_size s
-  unfolding safe_size size_if
-  size-bad k = ap size_if (sym (ap char_told k) ∙ e)
-
-  module _ {c n : ℕ} (k : r ≡ character.Is c n) {b : Bool} (h : b ≡ is_safe c) where
-    size_of : cond (is_safe c) n 0 ≡ safe_size s
-    unfolding safe_size size_if
-    size_of = ap size_if (sym (ap char_told k) ∙ e)
-
-    pub size-safe : b ≡ true → n ≡ safe_size s
-    size-safe t = let y : is_safe c ≡ true = sym h ∙ t in (rw y at size_of)
-
-    pub size-other : b ≡ false → 0 ≡ safe_size s
-    size-other t = let y : is_safe c ≡ false = sym h ∙ t in (rw y at size_of)
 
 pub size_in : (d : List ℕ) (at : ℕ) {n : ℕ} → n ≡ safe_size (drop at d) → at ≤ length d → at + n ≤ length d
 unfolding safe_size size_if

@@ -7,49 +7,22 @@ ghost use Rattle.lines.specs.Answer.{reads};
 ghost use Rattle.notes.specs.Safe.{is_safe, safe_size, safe_text};
 ghost use Rattle.notes.specs.Changes.{row_text, title_field, changes_text};
 
-use file::Read;
-use utf16::Character;
-
 // Whether a character does nothing but stand where it is: no control character, not U+2028 to U+202E, not U+2066 to U+2069.
+#[tactic(auto, unfolding(crate::specs::Safe::is_safe))]
 fn is_safe(c: u64) -> bool
     ensures { result ≡ is_safe c }
 {
-    if c < 0x20 {
-        return false;
-    }
-    if c < 0x7f {
-        return true;
-    }
-    if c < 0xa0 {
-        return false;
-    }
-    if c < 0x2028 {
-        return true;
-    }
-    if c < 0x202f {
-        return false;
-    }
-    if c < 0x2066 {
-        return true;
-    }
-    if c < 0x206a {
-        return false;
-    }
-    true
+    !matches!(c, 0..=0x1f | 0x7f..=0x9f | 0x2028..=0x202e | 0x2066..=0x2069)
 }
 
 // How many bytes of UTF-8 at a place are a safe character; 0 if none.
+#[tactic(auto, unfolding(crate::specs::Safe::safe_size, crate::specs::Safe::size_if))]
 fn safe_size(text: &[u8], at: usize) -> usize
     ensures { result ≡ safe_size (drop at text.now) }
 {
     match utf16::char8(text, at) {
-        Character::Bad => 0,
-        Character::Is(value, size) => {
-            if is_safe(value) {
-                return size;
-            }
-            0
-        }
+        Some((value, size)) if is_safe(value) => size,
+        _ => 0,
     }
 }
 
@@ -93,8 +66,8 @@ fn put_row_text(out: &mut [u8], file: &[u8], row: usize) -> usize
     let mut nodes = program::node_table();
     let mut items = program::item_table();
     match file::read_file(file, &mut nodes, &mut items) {
-        Read::Refused(n, p) => 0,
-        Read::Is(s) => {
+        Err(_) => 0,
+        Ok(s) => {
             if s.items <= row {
                 return 0;
             }

@@ -7,10 +7,12 @@ use native.Mathlib.Omega.{arith}
 use lib.ListN.{length}
 use Rattle.metadata.specs.Tables.{full_nodes, full_items, limits}
 use Rattle.room.specs.Room.{Result, good, bad, counted, kept}
+use Rattle.room.specs.Told as room
 use Rattle.mend.specs.Mend.{Mended, mend}
 use Rattle.mend.specs.Told.{Sizes, told, sizes_of, copy_in, lines_in}
-use Rattle.mend.specs.declared.Mending.{Mending}
-use Rattle.mend.specs.declared.Mending.TheVariants as mending
+use Rattle.std.proofs.Common as std
+use Rattle.std.proofs.Common.{Ok, Err, MatchResult}
+use Rattle.refusals.specs.declared.Refusal.{Refusal}
 use Rattle.lines.specs.Answer.{plainly, printed, Gives}
 use Rattle.outputs.specs.Mended.{mended_answer, mend_lines_answer}
 use Rattle.lines.specs.declared.Made.{Made}
@@ -35,12 +37,16 @@ module _ (x : Result Mended) where
       by (good m) e = let z : ◌≡◌ {A = ℕ} 0 1 = cc in absurd (omega arith)
       by (bad k q) e = let y : n ≡ k = cc in let z : p ≡ q = cc in rw (y, z) (refl, refl)
 
-  module _ {said : Mending} (e : told said ≡ sizes_of x) where
-    pub said-good : {a b : ℕ} → said ≡ mending.Is a b → (good a ≡ counted (copy_in x)) × (good b ≡ counted (lines_in x))
-    said-good k = sizes_good (rw k at e)
+  -- of what the call said, the one count
+  pub copy_counted : (said : std.Result (ℕ × ℕ) Refusal) (q : std.Result ℕ Refusal) → told said ≡ sizes_of x → MatchResult said (λ s. q ≡ Ok s.0) (λ k. q ≡ Err k)
+      → room.told q ≡ counted (copy_in x)
+  copy_counted (Ok (a, b)) q e h = rw h (sizes_good e).0
+  copy_counted (Err k) q e h = rw h (sizes_bad e).0
 
-    pub said-bad : {n p : ℕ} → said ≡ mending.Refused n p → (bad n p ≡ counted (copy_in x)) × (bad n p ≡ counted (lines_in x))
-    said-bad k = sizes_bad (rw k at e)
+  pub lines_counted : (said : std.Result (ℕ × ℕ) Refusal) (q : std.Result ℕ Refusal) → told said ≡ sizes_of x → MatchResult said (λ s. q ≡ Ok s.1) (λ k. q ≡ Err k)
+      → room.told q ≡ counted (lines_in x)
+  lines_counted (Ok (a, b)) q e h = rw h (sizes_good e).1
+  lines_counted (Err k) q e h = rw h (sizes_bad e).1
 
 -- with full tables and such buffers
 module _ (f : List ℕ) {n i : ℕ} (en : full_nodes ≡ n) (ei : full_items ≡ i) (room : ℕ) where
@@ -54,7 +60,7 @@ module _ (f : List ℕ) {n i : ℕ} (en : full_nodes ≡ n) (ei : full_items ≡
 
 -- What the call said and left, of lent room of these sizes; `counts` is what is said of a part of it, and `ends` what an answer in its buffer comes to.
 pub copy-settles : (f : List ℕ) {n i room space : ℕ} → full_nodes ≡ n → full_items ≡ i → 256 ≡ space → (v : List ℕ) → length v ≡ room
-    → (said : Mending) → told said ≡ sizes_of (mend (limits n i) room space f) → v ≡ kept room (copy_in (mend (limits n i) room space f))
+    → (said : std.Result (ℕ × ℕ) Refusal) → told said ≡ sizes_of (mend (limits n i) room space f) → v ≡ kept room (copy_in (mend (limits n i) room space f))
     → {bytes : Result ℕ} → ((x : Result Mended) → told said ≡ sizes_of x → bytes ≡ counted (copy_in x)) → {r : Made} {text : List ℕ}
     → ((room : ℕ) (x : Result (List ℕ)) → length v ≡ room → bytes ≡ counted x → v ≡ kept room x → Gives room r text
     (printed room [] plainly x)) → Gives room r text (mended_answer room f)
@@ -63,7 +69,7 @@ copy-settles f {n} {i} {room} {space} en ei es v long said says holds counts end
     gives_as (copy-as f en ei room es) (ends room (copy_in x) long (counts x says) holds)
 
 pub lines-settle : (f : List ℕ) {n i room space : ℕ} → full_nodes ≡ n → full_items ≡ i → 65536 ≡ room → (v : List ℕ) → length v ≡ space
-    → (said : Mending) → told said ≡ sizes_of (mend (limits n i) room space f) → v ≡ kept space (lines_in (mend (limits n i) room space f))
+    → (said : std.Result (ℕ × ℕ) Refusal) → told said ≡ sizes_of (mend (limits n i) room space f) → v ≡ kept space (lines_in (mend (limits n i) room space f))
     → {bytes : Result ℕ} → ((x : Result Mended) → told said ≡ sizes_of x → bytes ≡ counted (lines_in x)) → {r : Made} {text : List ℕ}
     → ((room : ℕ) (x : Result (List ℕ)) → length v ≡ room → bytes ≡ counted x → v ≡ kept room x → Gives room r text
     (printed room [] plainly x)) → Gives space r text (mend_lines_answer space f)

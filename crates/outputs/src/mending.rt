@@ -1,16 +1,10 @@
 // The copy of a file whose header is mended, and the lines that tell of it.
-ghost use Rattle.std.specs.Prelude.{◌≡◌, length};
-ghost use Rattle.room.specs.Room.{Result, counted};
-ghost use Rattle.room.specs.Told as told_room;
-ghost use Rattle.mend.specs.Mend.{Mended};
-ghost use Rattle.mend.specs.Told as told_mend;
-ghost use Rattle.mend.specs.Told.{sizes_of, copy_in, lines_in};
+ghost use Rattle.std.specs.Prelude.{◌≡◌, Ok, Err, MatchResult, length};
 ghost use Rattle.lines.specs.Answer.{Gives};
 ghost use Rattle.outputs.specs.Mended.{mended_answer, mend_lines_answer};
 
 use lines::{Made, settle};
-use mend::Mending;
-use room::Written;
+use refusals::Refusal;
 
 // Room for the lines, of which there are two at most.
 fn line_buffer() -> [u8; 256]
@@ -20,23 +14,17 @@ fn line_buffer() -> [u8; 256]
 }
 
 // The bytes of the copy.
-fn copy_written(said: Mending) -> Written
-    ensures { (x : Result Mended) → told_mend.told said ≡ sizes_of x → told_room.told result ≡ counted (copy_in x) }
+fn copy_written(said: Result<(usize, usize), Refusal>) -> Result<usize, Refusal>
+    ensures { MatchResult said (λ sizes. result ≡ Ok sizes.0) (λ e. result ≡ Err e) }
 {
-    match said {
-        Mending::Refused(n, p) => Written::Refused(n, p),
-        Mending::Is(copy, lines) => Written::Bytes(copy),
-    }
+    said.map(|sizes| sizes.0)
 }
 
 // The bytes of the lines.
-fn lines_written(said: Mending) -> Written
-    ensures { (x : Result Mended) → told_mend.told said ≡ sizes_of x → told_room.told result ≡ counted (lines_in x) }
+fn lines_written(said: Result<(usize, usize), Refusal>) -> Result<usize, Refusal>
+    ensures { MatchResult said (λ sizes. result ≡ Ok sizes.1) (λ e. result ≡ Err e) }
 {
-    match said {
-        Mending::Refused(n, p) => Written::Refused(n, p),
-        Mending::Is(copy, lines) => Written::Bytes(lines),
-    }
+    said.map(|sizes| sizes.1)
 }
 
 // The copy.

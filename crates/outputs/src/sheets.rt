@@ -8,7 +8,7 @@ ghost use Rattle.lines.specs.Answer.{Gives};
 ghost use Rattle.outputs.specs.Printed.{sheet_answer, moved_answer};
 
 use lines::{Made, settle};
-use room::Written;
+use refusals::Refusal;
 
 // Writes the sheet in either edition.
 fn write_edition(
@@ -17,7 +17,7 @@ fn write_edition(
     items: &mut [u64],
     second: bool,
     text: &mut [u8],
-) -> Written
+) -> Result<usize, Refusal>
     ensures answer { told result ≡ counted (answered nodes.old items.old file.now (write_in second (length text.old))) }
     ensures text { text.new ≡ kept (length text.old) (answered nodes.old items.old file.now (write_in second (length text.old))) }
 {

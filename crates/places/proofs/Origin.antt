@@ -8,7 +8,10 @@ use native.Mathlib.Omega.{arith}
 use lib.Dec.{eqb, ltb}
 use lib.ListN.{length}
 use borrow.Author.Tests.{eq-eqb, ne_eqb, eqb-true, ltb-true}
-use Rattle.cursor.specs.declared.FilePlace.{FilePlace}
+use Rattle.std.proofs.Common as std
+use Rattle.std.proofs.Common.{Ok, Err}
+use Rattle.refusals.specs.Reasons.{number_of}
+use Rattle.refusals.specs.declared.Refusal.{Refusal}
 use Rattle.cursor.specs.declared.Node.{Node}
 use Rattle.cursor.specs.declared.Item.{Item}
 use Rattle.header.specs.Header.{Header}
@@ -23,9 +26,8 @@ use Rattle.rows.proofs.Rows.{node_at_lem}
 use Rattle.resolve.specs.Resolve.{Resource, row_starting, resource_of, reached, chain, resolve_row, resolve}
 use Rattle.resolve.specs.Told as resolution
 use Rattle.resolve.specs.declared.Resolved.{Resolved}
-use Rattle.resolve.specs.declared.Resolved.TheVariants as resolved
 use Rattle.resolve.proofs.Accepted.{linked}
-use Rattle.lines.specs.Answer.{plainly, refused_by, fitted, printed, reads}
+use Rattle.lines.specs.Answer.{plainly, refused_by, fitted}
 use Rattle.places.specs.Places.{origin_line, origin_of, origin, origin_answer}
 use Rattle.lines.proofs.Ending.{printed-good, printed-bad}
 use Rattle.lines.proofs.Reading.{full, asked-rows}
@@ -103,16 +105,16 @@ unfolding ask resolve
 refused row f (rows h ns is) k = unmade row f h ns is k
 refused row f (refusal a b) {m} {p} k = let x : a ≡ m = cc in let y : b ≡ p = cc in rw (x, y)
 
-module _ (f : List ℕ) {n i : ℕ} (en : full_nodes ≡ n) (ei : full_items ≡ i) (room row : ℕ) {r : Resolved}
+module _ (f : List ℕ) {n i : ℕ} (en : full_nodes ≡ n) (ei : full_items ≡ i) (room row : ℕ) {r : std.Result Resolved Refusal}
     (e : resolution.told r ≡ ask (read_file (limits n i) f) (resolve row f)) where
-  pub origin-bad : {m p : ℕ} → r ≡ resolved.Refused m p → refused_by room [] m p ≡ origin_answer room row f
+  pub origin-bad : {k : Refusal} → r ≡ Err k → refused_by room [] (number_of k.0) k.1 ≡ origin_answer room row f
   unfolding origin_answer
   origin-bad k = printed-bad plainly _ _ (sym (full f en ei (origin row f)) ∙ refused row f (read_file (limits n i) f) (sym e ∙ ap resolution.told k))
 
-  module _ {place : FilePlace} {size last hops : ℕ} (k : r ≡ resolved.At place size last hops) {t : List ℕ}
+  module _ {x : Resolved} (k : r ≡ Ok x) {t : List ℕ}
       (tab : t ≡ kept_nodes n (read_file (limits n i) f) (ask (read_file (limits n i) f) (resolve row f))) where
     abbrev it : Resource
-    it = record { place = place.0; size = size; row = last; hops = hops }
+    it = record { place = x.place.0; size = x.size; row = x.last; hops = x.hops }
 
     outcome : ask (read_file (limits n i) f) (resolve row f) ≡ good it
     outcome = sym e ∙ ap resolution.told k
@@ -123,17 +125,17 @@ module _ (f : List ℕ) {n i : ℕ} (en : full_nodes ≡ n) (ei : full_items ≡
       is : List Item
       reads : read_file (limits n i) f ≡ rows h ns is
       found : resolve_row row ns ≡ good it
-      inside : last * node_width + node_width ≤ length t
-      same : node_from t (last * node_width) ≡ node_at ns last
+      inside : x.last * node_width + node_width ≤ length t
+      same : node_from t (x.last * node_width) ≡ node_at ns x.last
 
     there : There
     unfolding read_of resolve
     there =
         let a = asked-rows (read_file (limits n i) f) (resolve row f) outcome in
         let ns = a.1 in
-        let l : last < length ns = resource-row ns (linked (limits n i) f a.3) it row a.4 in
-        let st = standing f (limits n i) n i {s = summary a.0 ns a.2} {r = read_of (read_file (limits n i) f)} refl {t = t}
-        {u = item_table i (read_file (limits n i) f)} (tab ∙ kept-good n (read_file (limits n i) f) outcome) refl (ap read_of a.3) in
+        let l : x.last < length ns = resource-row ns (linked (limits n i) f a.3) it row a.4 in
+        let st = standing f (limits n i) n i {s = summary a.0 ns a.2} {r = Ok (summary a.0 ns a.2)} (sym (ap read_of a.3)) {t = t}
+        {u = item_table i (read_file (limits n i) f)} (tab ∙ kept-good n (read_file (limits n i) f) outcome) refl refl in
         let y : rows st.h st.ns st.is ≡ rows a.0 ns a.2 = sym st.reads ∙ a.3 in
         let same_nodes : st.ns ≡ ns = cc in
         record {
@@ -144,17 +146,17 @@ module _ (f : List ℕ) {n i : ℕ} (en : full_nodes ≡ n) (ei : full_items ≡
           found = a.4;
           inside = omega (arith, st.node-room);
           same = sym
-              (node_at_lem t (length ns) last l) ∙ ap (λ v. node_at v last) (st.nodes-are ∙ same_nodes);
+              (node_at_lem t (length ns) x.last l) ∙ ap (λ v. node_at v x.last) (st.nodes-are ∙ same_nodes);
         }
 
-    pub origin-room : last * node_width + node_width ≤ length t
+    pub origin-room : x.last * node_width + node_width ≤ length t
     origin-room = there.inside
 
-    made : (w : There) → origin row f w.h w.ns w.is ≡ good (origin_line (node_at w.ns last).reference it)
+    made : (w : There) → origin row f w.h w.ns w.is ≡ good (origin_line (node_at w.ns x.last).reference it)
     unfolding origin origin_of
     made w = rw w.found
 
-    pub origin-good : {x : Node} → x ≡ node_from t (last * node_width) → fitted room [] (plainly (origin_line x.reference it)) ≡ origin_answer room row f
+    pub origin-good : {v : Node} → v ≡ node_from t (x.last * node_width) → fitted room [] (plainly (origin_line v.reference it)) ≡ origin_answer room row f
     unfolding origin_answer
     origin-good z =
         let w = there in

@@ -25,7 +25,8 @@ use Rattle.metadata.proofs.Limited.{Less}
 use Rattle.file.specs.Reading.{Reading, rows, refusal, read_file, answer_of, node_table, item_table}
 use Rattle.rows.specs.Rows.{item_at}
 use Rattle.file.specs.Told as tree
-use Rattle.file.specs.Asking.{Result, good, bad, ask, kept_nodes, kept_items, written_nodes, written_items, Asks, counts}
+use Rattle.file.specs.declared.Tree.{Tree}
+use Rattle.file.specs.Asking.{Counts, Result, good, bad, ask, kept_nodes, kept_items, written_nodes, written_items, Asks, counts}
 use Rattle.file.specs.Asking as asking
 use Rattle.file.specs.Hidden.{is_hidden}
 use Rattle.file_laws.specs.Private.{may_differ, DifferInPrivate}
@@ -76,6 +77,10 @@ use Rattle.mend.proofs.Theorem.{read-rows, mended-length, still, mended-is, mend
 use Rattle.mend.proofs.Alike.{mended-alike}
 use Rattle.mend.proofs.Listed.{mend-listed, mend-placed}
 use Rattle.room.specs.Room as room
+use Rattle.room.specs.Told.{told}
+use Rattle.refusals.specs.declared.Refusal.{Refusal}
+use Rattle.std.proofs.Common as std
+use Rattle.std.proofs.Common.{Ok, Err}
 use Rattle.cursor.proofs.Listed.{allowed-front, among-back, are_apart, apart-placed, placed-if, fitted, fitting-among}
 use Rattle.utf16.specs.Unicode as unicode
 use Rattle.utf16.proofs.Listed.{utf8-listed, utf16-listed}
@@ -464,10 +469,21 @@ pub in_totals : (f ws : List ℕ) (t : Totals) (r : Result Kinds) → total_word
 in_totals f ws t (good k) = refl
 in_totals f ws t (bad n p) = refl
 
-tree-says : (o : Reading) (f : List ℕ) → tree.told (answer_of o) ≡ ask o (counts f)
+abbrev counts_of : Result Tree → Result Counts
+counts_of (good t) = good (record { version = t.version; nodes = t.nodes; items = t.items })
+counts_of (bad n p) = bad n p
+
+tree-told : (r : std.Result Tree Refusal) → tree.told r ≡ counts_of (told r)
+tree-told (Ok t) = refl
+tree-told (Err r) = refl
+
+tree-counts : (o : Reading) (f : List ℕ) → counts_of (answer_of o) ≡ ask o (counts f)
 unfolding answer_of ask counts
-tree-says (rows h ns is) f = refl
-tree-says (refusal n p) f = refl
+tree-counts (rows h ns is) f = refl
+tree-counts (refusal n p) f = refl
+
+tree-says : (r : std.Result Tree Refusal) (o : Reading) (f : List ℕ) → told r ≡ answer_of o → tree.told r ≡ ask o (counts f)
+tree-says r o f e = tree-told r ∙ ap counts_of e ∙ tree-counts o f
 
 tree-tables : (n m : ℕ) (o : Reading) (f ws : List ℕ) → (node_table n o ≡ holding f ws (ask o (counts f)) (filled n (λ a. node_table n o))) ×
     (item_table m o ≡ holding f ws (ask o (counts f)) (filled m (λ a. item_table m o)))
@@ -491,7 +507,7 @@ pub called : {q : Question} {lent : List (List ℕ)} {f : List ℕ} {o : Outcome
 unfolding outcome leaves reads
 called (read-tree {nodes} {items} {f} r a t u) =
     let o = read_file (limits (length nodes) (length items)) f in let w = tree-tables (length nodes) (length items) o f (saying tree_values (ask o (counts f))) in
-    made (ap (saying _) (ap tree.told a ∙ tree-says o f)) (two (t ∙ w.0) (u ∙ w.1) refl)
+    made (ap (saying _) (tree-says r o f a)) (two (t ∙ w.0) (u ∙ w.1) refl)
 called (find-item w row r k) = over-called _ _ k
 called (find-own w row r k) = over-called _ _ k
 called (resolve-row row r k) = over-called _ _ k

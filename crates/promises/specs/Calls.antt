@@ -1,29 +1,28 @@
 -- The public calls. Each line is the contract of a call, clause by clause: what it answers, and what each table and buffer finally holds, whatever it held
 -- before. f is the file; t, u and v are what the tables and the buffer finally hold.
 -- Assumes nothing.
+use Rattle.std.specs.Prelude as std
 use Rattle.std.specs.Prelude.{◌≡◌, cond, ◌||◌, List, [], ◌∷◌, map, ℕ, ◌+◌, ◌≤◌, ◌<◌, ◌^◌, min, eqb, length, get_or, drop}
+use Rattle.refusals.specs.declared.Refusal.{Refusal}
 use Rattle.cursor.specs.Refusals.{too_many_files}
 use Rattle.cursor.specs.declared.Node.{Node}
 use Rattle.cursor.specs.declared.Item.{Item}
 use Rattle.header.specs.Header.{Header}
 use Rattle.file.specs.Reading.{rows, answer_of}
 use Rattle.file.specs.Told as tree
-use Rattle.file.specs.declared.Answer.{Answer}
+use Rattle.file.specs.declared.Tree.{Tree}
 use Rattle.file.specs.Asking.{Asks, Result, reads, nodes_read, items_read, answered, nodes_left, items_left, nodes_written, items_written}
 use Rattle.file_laws.specs.Private.{DifferInPrivate}
 use Rattle.find.specs.Find.{Wanted, find, find_own}
 use Rattle.find.specs.Told as found
-use Rattle.find.specs.declared.Found.{Found}
 use Rattle.resolve.specs.Resolve.{resolve, copy_into, part}
 use Rattle.resolve.specs.Told as resolved
 use Rattle.resolve.specs.Told.{Given}
 use Rattle.resolve.specs.declared.Resolved.{Resolved}
 use Rattle.description.specs.Count.{count_for}
 use Rattle.description.specs.Told as counted
-use Rattle.description.specs.declared.Counted.{Counted}
 use Rattle.mobile.specs.Mobile.{mobile}
 use Rattle.mobile.specs.Told as judged
-use Rattle.mobile.specs.declared.Judged.{Judged}
 use Rattle.account.specs.Totals.{most_files, zeros}
 use Rattle.account.specs.Told as accounted
 use Rattle.account.specs.Told.{kind_words, total_words, totals_in}
@@ -34,15 +33,12 @@ use Rattle.editions.specs.Sheets.{move}
 use Rattle.title_text.specs.Title as title
 use Rattle.mend.specs.Told as mended
 use Rattle.mend.specs.Told.{size_words, sizes_of, copy_in, lines_in, asked}
-use Rattle.mend.specs.declared.Mending.{Mending}
 use Rattle.room.specs.Room as room
 use Rattle.room.specs.Told as written
-use Rattle.room.specs.declared.Written.{Written}
 use Rattle.utf16.specs.Unicode as unicode
 use Rattle.id3.specs.Frames as id3
 use Rattle.id3.specs.Told as tag
-use Rattle.id3.specs.declared.FrameCount.{FrameCount}
-use Rattle.id3.specs.declared.Framed.{Framed}
+use Rattle.id3.specs.declared.TagFrame.{TagFrame}
 use Rattle.promises.specs.Promises as promises
 use Rattle.promises.specs.Promises.{Question, read_tree, find_item, resolve_row, copy_resource, judge_mobile, account_bytes, write_sheet, write_sheet2, correct_title, mend_header, to_utf8, to_utf16, move_sheet, count_frames, tag_frame, Outcome, saying, tree_values, item_values, resource_values, one_value, frame_values, about, outcome, OnlyThere, OutcomesAlike}
 
@@ -64,32 +60,32 @@ pub record Fills (bytes : Result (List ℕ)) (buffer : List ℕ) (says : Result 
 -- a call that was made: its question, the tables and buffers lent, as they were, the file, and what it left
 pub data Called : Question → (lent : List (List ℕ)) → (file : List ℕ) → Outcome → Type 0 where
   -- file::read_tree
-  read-tree : {nodes items f t u : List ℕ} (r : Answer)
-      → r ≡ answer_of (reads nodes items f) → t ≡ nodes_read nodes items f → u ≡ items_read nodes items f
+  read-tree : {nodes items f t u : List ℕ} (r : std.Result Tree Refusal)
+      → written.told r ≡ answer_of (reads nodes items f) → t ≡ nodes_read nodes items f → u ≡ items_read nodes items f
       → Called read_tree (nodes ∷ items ∷ []) f (left tree_values (tree.told r) (t ∷ u ∷ []))
   -- find::find_standard with w a standard number, find::find_custom with w a custom name
-  find-item : {nodes items f t u : List ℕ} (w : Wanted) (row : ℕ) (r : Found)
+  find-item : {nodes items f t u : List ℕ} (w : Wanted) (row : ℕ) (r : std.Result (ℕ × Item) Refusal)
       → Over (find w row) nodes items f (found.told r) t u
       → Called (find_item w row) (nodes ∷ items ∷ []) f (left item_values (found.told r) (t ∷ u ∷ []))
   -- find::find_own_standard and find::find_own_custom
-  find-own : {nodes items f t u : List ℕ} (w : Wanted) (row : ℕ) (r : Found)
+  find-own : {nodes items f t u : List ℕ} (w : Wanted) (row : ℕ) (r : std.Result (ℕ × Item) Refusal)
       → Over (find_own w row) nodes items f (found.told r) t u
       → Called (promises.find_own w row) (nodes ∷ items ∷ []) f (left item_values (found.told r) (t ∷ u ∷ []))
   -- resolve::resolve
-  resolve-row : {nodes items f t u : List ℕ} (row : ℕ) (r : Resolved)
+  resolve-row : {nodes items f t u : List ℕ} (row : ℕ) (r : std.Result Resolved Refusal)
       → Over (resolve row) nodes items f (resolved.told r) t u
       → Called (resolve_row row) (nodes ∷ items ∷ []) f (left resource_values (resolved.told r) (t ∷ u ∷ []))
   -- resolve::copy_resource
-  copy-resource : {nodes items out f t u v : List ℕ} (row : ℕ) (r : Resolved)
+  copy-resource : {nodes items out f t u v : List ℕ} (row : ℕ) (r : std.Result Resolved Refusal)
       → Over (copy_into row (length out)) nodes items f (resolved.told r) t u
       → v ≡ room.padded (length out) (part f (answered nodes items f (copy_into row (length out))))
       → Called (copy_resource row) (nodes ∷ items ∷ out ∷ []) f (left resource_values (resolved.told r) (t ∷ u ∷ v ∷ []))
   -- description::count_for
-  count-for : {nodes items f t u : List ℕ} (item channel resource : ℕ) (r : Counted)
+  count-for : {nodes items f t u : List ℕ} (item channel resource : ℕ) (r : std.Result ℕ Refusal)
       → Over (count_for item channel resource) nodes items f (counted.told r) t u
       → Called (promises.count_for item channel resource) (nodes ∷ items ∷ []) f (left one_value (counted.told r) (t ∷ u ∷ []))
   -- mobile::judge
-  judge : {nodes items f t u : List ℕ} (r : Judged)
+  judge : {nodes items f t u : List ℕ} (r : std.Result ℕ Refusal)
       → Over mobile nodes items f (judged.told r) t u
       → Called judge_mobile (nodes ∷ items ∷ []) f (left one_value (judged.told r) (t ∷ u ∷ []))
   -- account::account
@@ -98,43 +94,43 @@ pub data Called : Question → (lent : List (List ℕ)) → (file : List ℕ) �
       → t ≡ accounted.nodes_after totals nodes items f → u ≡ accounted.items_after totals nodes items f
       → Called (account_bytes totals) (nodes ∷ items ∷ []) f (left kind_words (accounted.told r) (t ∷ u ∷ total_words (totals_in r) ∷ []))
   -- sheet::write_sheet
-  write-sheet : {nodes items sheet f t u v : List ℕ} (r : Written)
+  write-sheet : {nodes items sheet f t u v : List ℕ} (r : std.Result ℕ Refusal)
       → Fills (answered nodes items f (write (length sheet))) sheet (written.told r) v
       → t ≡ nodes_left nodes items f (write (length sheet)) → u ≡ items_left nodes items f (write (length sheet))
       → Called write_sheet (nodes ∷ items ∷ sheet ∷ []) f (left one_value (written.told r) (t ∷ u ∷ v ∷ []))
   -- sheet::write_sheet2
-  write-sheet2 : {nodes items sheet f t u v : List ℕ} (r : Written)
+  write-sheet2 : {nodes items sheet f t u v : List ℕ} (r : std.Result ℕ Refusal)
       → Fills (answered nodes items f (write2 (length sheet))) sheet (written.told r) v
       → t ≡ nodes_left nodes items f (write2 (length sheet)) → u ≡ items_left nodes items f (write2 (length sheet))
       → Called write_sheet2 (nodes ∷ items ∷ sheet ∷ []) f (left one_value (written.told r) (t ∷ u ∷ v ∷ []))
   -- title::correct_title
-  correct-title : {nodes items out f t u v : List ℕ} (item : ℕ) (text : List ℕ) (r : Written)
+  correct-title : {nodes items out f t u v : List ℕ} (item : ℕ) (text : List ℕ) (r : std.Result ℕ Refusal)
       → Fills (answered nodes items f (title.correct_title item text (length out))) out (written.told r) v
       → t ≡ nodes_written nodes items (answered nodes items f (title.correct_title item text (length out)))
       → u ≡ items_written nodes items (answered nodes items f (title.correct_title item text (length out)))
       → Called (correct_title item text) (nodes ∷ items ∷ out ∷ []) f (left one_value (written.told r) (t ∷ u ∷ v ∷ []))
   -- mend::mend
-  mend-header : {nodes items copy lines f t u v w : List ℕ} (r : Mending)
+  mend-header : {nodes items copy lines f t u v w : List ℕ} (r : std.Result (ℕ × ℕ) Refusal)
       → mended.told r ≡ sizes_of (asked nodes items copy lines f)
       → t ≡ nodes_written nodes items (copy_in (asked nodes items copy lines f)) → u ≡ items_written nodes items (copy_in (asked nodes items copy lines f))
       → v ≡ room.kept (length copy) (copy_in (asked nodes items copy lines f)) → w ≡ room.kept (length lines) (lines_in (asked nodes items copy lines f))
       → Called mend_header (nodes ∷ items ∷ copy ∷ lines ∷ []) f (left size_words (mended.told r) (t ∷ u ∷ v ∷ w ∷ []))
   -- unicode::to_utf8
-  to-utf8 : {buffer f units v : List ℕ} (r : Written)
+  to-utf8 : {buffer f units v : List ℕ} (r : std.Result ℕ Refusal)
       → Fills (room.fitting (length buffer) (unicode.to_utf8 units)) buffer (written.told r) v
       → Called (to_utf8 units) (buffer ∷ []) f (left one_value (written.told r) (v ∷ []))
   -- unicode::to_utf16
-  to-utf16 : {buffer f text v : List ℕ} (r : Written)
+  to-utf16 : {buffer f text v : List ℕ} (r : std.Result ℕ Refusal)
       → Fills (room.fitting (length buffer) (unicode.to_utf16 text)) buffer (written.told r) v
       → Called (to_utf16 text) (buffer ∷ []) f (left one_value (written.told r) (v ∷ []))
   -- mover::move_sheet
-  move-sheet : {buffer f sheet v : List ℕ} (r : Written)
+  move-sheet : {buffer f sheet v : List ℕ} (r : std.Result ℕ Refusal)
       → Fills (room.fitting (length buffer) (move sheet)) buffer (written.told r) v
       → Called (move_sheet sheet) (buffer ∷ []) f (left one_value (written.told r) (v ∷ []))
   -- id3::frame_count
-  count-frames : {f : List ℕ} (t : List ℕ) (r : FrameCount) → tag.count_told r ≡ id3.frame_count t → Called (count_frames t) [] f (left one_value (tag.count_told r) [])
+  count-frames : {f : List ℕ} (t : List ℕ) (r : std.Result ℕ Refusal) → tag.count_told r ≡ id3.frame_count t → Called (count_frames t) [] f (left one_value (tag.count_told r) [])
   -- id3::frame
-  tag-frame : {f : List ℕ} (t : List ℕ) (i : ℕ) (r : Framed) → tag.frame_told r ≡ id3.frame_at i t → Called (tag_frame t i) [] f (left frame_values (tag.frame_told r) [])
+  tag-frame : {f : List ℕ} (t : List ℕ) (i : ℕ) (r : std.Result TagFrame Refusal) → tag.frame_told r ≡ id3.frame_at i t → Called (tag_frame t i) [] f (left frame_values (tag.frame_told r) [])
 
 -- ---- What is promised of calls, whatever their tables and buffers held.
 

@@ -1,6 +1,7 @@
 -- The page of the shelf that desks share (02, E7): the calls, what each leaves behind, and what is promised of them. They have no file, and the sheets on a shelf are what the
 -- desks put there: demand 3 says nothing of them. The proofs are in proofs/Shelf.antt.
 -- Assumes nothing.
+use Rattle.std.specs.Prelude as std
 use Rattle.std.specs.Prelude.{◌≡◌, false, ◌⊎◌, List, [], ◌∷◌, ◌++◌, map, ℕ, ◌≤◌, T, length, get_or, replicate}
 use Rattle.cursor.specs.Refusals.{damaged_shelf, is_allowed}
 use Rattle.room.specs.Room.{padded, counted, kept}
@@ -10,8 +11,7 @@ use Rattle.shelf.specs.Words.{shelf_of, words_with}
 use Rattle.shelf.specs.Rows.{row_of}
 use Rattle.shelf.specs.Told.{told_outcome, told_got}
 use Rattle.shelf.specs.declared.Card.{Card}
-use Rattle.shelf.specs.declared.Outcome as shelf
-use Rattle.shelf.specs.declared.Got.{Got}
+use Rattle.refusals.specs.declared.Refusal.{Refusal}
 use Rattle.promises.specs.Promises.{saying, one_value, size_value}
 
 -- ---- what a call leaves
@@ -44,35 +44,35 @@ leaves c s = record { answer = saying (values c) (answer c s); shelf = next c s;
 
 pub data Called : Call → Shelf → Left → Type 0 where
   -- shelf::put_words
-  put-words : (ws text sheet : List ℕ) {ws' text' : List ℕ} (l : Label) (r : shelf.Outcome)
+  put-words : (ws text sheet : List ℕ) {ws' text' : List ℕ} (l : Label) (r : std.Result (Unit {0}) Refusal)
       → told_outcome r ≡ answer (putting l sheet) (shelf_of ws text)
       → ws' ≡ words_with ws (next (putting l sheet) (shelf_of ws text)).cards
       → text' ≡ (next (putting l sheet) (shelf_of ws text)).text
       → Called (putting l sheet) (shelf_of ws text) (record { answer = saying no_value (told_outcome r); shelf = shelf_of ws' text'; buffer = [] })
   -- shelf::get_words
-  get-words : (ws text out : List ℕ) {out' : List ℕ} (l : Label) (r : Got)
+  get-words : (ws text out : List ℕ) {out' : List ℕ} (l : Label) (r : std.Result ℕ Refusal)
       → told_got r ≡ counted (answer (getting l (length out)) (shelf_of ws text))
       → out' ≡ kept (length out) (answer (getting l (length out)) (shelf_of ws text))
       → Called (getting l (length out)) (shelf_of ws text) (record { answer = saying one_value (told_got r); shelf = shelf_of ws text; buffer = out' })
   -- shelf::drop_words
-  drop-words : (ws text : List ℕ) {ws' text' : List ℕ} (l : Label) (r : shelf.Outcome)
+  drop-words : (ws text : List ℕ) {ws' text' : List ℕ} (l : Label) (r : std.Result (Unit {0}) Refusal)
       → told_outcome r ≡ answer (dropping l) (shelf_of ws text)
       → ws' ≡ words_with ws (next (dropping l) (shelf_of ws text)).cards
       → text' ≡ (next (dropping l) (shelf_of ws text)).text
       → Called (dropping l) (shelf_of ws text) (record { answer = saying no_value (told_outcome r); shelf = shelf_of ws' text'; buffer = [] })
   -- shelf::put
-  put : (cards : List Card) (text sheet : List ℕ) {cards' : List Card} {text' : List ℕ} (l : Label) (r : shelf.Outcome)
+  put : (cards : List Card) (text sheet : List ℕ) {cards' : List Card} {text' : List ℕ} (l : Label) (r : std.Result (Unit {0}) Refusal)
       → told_outcome r ≡ answer (putting l sheet) (row_of cards text)
       → cards' ≡ (next (putting l sheet) (row_of cards text)).cards
       → text' ≡ (next (putting l sheet) (row_of cards text)).text
       → Called (putting l sheet) (row_of cards text) (record { answer = saying no_value (told_outcome r); shelf = row_of cards' text'; buffer = [] })
   -- shelf::get
-  get : (cards : List Card) (text out : List ℕ) {out' : List ℕ} (l : Label) (r : Got)
+  get : (cards : List Card) (text out : List ℕ) {out' : List ℕ} (l : Label) (r : std.Result ℕ Refusal)
       → told_got r ≡ counted (answer (getting l (length out)) (row_of cards text))
       → out' ≡ kept (length out) (answer (getting l (length out)) (row_of cards text))
       → Called (getting l (length out)) (row_of cards text) (record { answer = saying one_value (told_got r); shelf = row_of cards text; buffer = out' })
   -- shelf::drop
-  drop : (cards : List Card) (text : List ℕ) {cards' : List Card} {text' : List ℕ} (l : Label) (r : shelf.Outcome)
+  drop : (cards : List Card) (text : List ℕ) {cards' : List Card} {text' : List ℕ} (l : Label) (r : std.Result (Unit {0}) Refusal)
       → told_outcome r ≡ answer (dropping l) (row_of cards text)
       → cards' ≡ (next (dropping l) (row_of cards text)).cards
       → text' ≡ (next (dropping l) (row_of cards text)).text

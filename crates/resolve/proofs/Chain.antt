@@ -112,10 +112,10 @@ next-there ws count k l h {r} is e {next} s =
 -- ---- a row
 
 module _ (ws : List ℕ) (count row : ℕ) where
-  pub row-none : count ≤ row → bad 18 0 ≡ resolve_row row (nodes_in count ws)
+  pub row_none : count ≤ row → bad 18 0 ≡ resolve_row row (nodes_in count ws)
   unfolding resolve_row
-  row-none l = let c = nodes-in_length ws count in let m : length (nodes_in count ws) ≤ row = omega arith in simp (le-ltb _ _ m)
+  row_none l = let c = nodes-in_length ws count in let m : length (nodes_in count ws) ≤ row = omega arith in simp (le-ltb _ _ m)
 
-  pub row-there : row < count → {a : Result Resource} → a ≡ chain 4 (nodes_in count ws) row 0 → a ≡ resolve_row row (nodes_in count ws)
+  pub row_there : row < count → {a : Result Resource} → a ≡ chain 4 (nodes_in count ws) row 0 → a ≡ resolve_row row (nodes_in count ws)
   unfolding resolve_row
-  row-there l {a} e = let c = nodes-in_length ws count in let m : row < length (nodes_in count ws) = omega arith in e ∙ simp (lt-ltb _ _ m)
+  row_there l {a} e = let c = nodes-in_length ws count in let m : row < length (nodes_in count ws) = omega arith in e ∙ simp (lt-ltb _ _ m)

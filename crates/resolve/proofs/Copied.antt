@@ -8,16 +8,18 @@ use native.Mathlib.Omega.{arith}
 use lib.ListN.{length, replicate, take, drop, length-drop}
 use lib.Seq.{sets, length-take-le}
 use borrow.Author.Tests.{le-leb, lt-leb}
-use Rattle.cursor.specs.declared.FilePlace.{FilePlace}
+use Rattle.std.proofs.Common.{Ok, Err}
+use Rattle.std.proofs.Common as std
+use Rattle.refusals.specs.Reasons.{number_of}
+use Rattle.refusals.specs.declared.Refusal.{Refusal}
 use Rattle.room.specs.Room.{padded}
 use Rattle.room.proofs.Sets.{sets-front, padded-behind}
 use Rattle.metadata.specs.Tables.{limits}
 use Rattle.file.specs.Reading.{Reading, rows, refusal, read_file}
-use Rattle.file.specs.Asking.{Result, good, bad, ask, kept_nodes, kept_items}
+use Rattle.file.specs.Asking.{Result, bad, ask, kept_nodes, kept_items}
 use Rattle.resolve.specs.Resolve.{Resource, resolve, part, fitting, copy_into}
 use Rattle.resolve.specs.Told.{told}
 use Rattle.resolve.specs.declared.Resolved.{Resolved}
-use Rattle.resolve.specs.declared.Resolved.TheVariants as resolved
 use Rattle.resolve.proofs.Exits.{part-inside}
 
 -- zeros of a length that was kept
@@ -50,35 +52,35 @@ module _ (f : List ℕ) (nsize isize row : ℕ) (out : List ℕ) where
   copies : {a : Result Resource} {t u v : List ℕ} → copy ≡ a → t ≡ kept_nodes nsize o a → u ≡ kept_items isize o a → v ≡ padded room (part f a) → Copies a t u v
   copies e a b c = (sym e, a ∙ ap (kept_nodes nsize o) (sym e), b ∙ ap (kept_items isize o) (sym e), c ∙ ap (λ x. padded room (part f x)) (sym e))
 
-  module _ (x : Resolved) (y : told x ≡ ask o (resolve row f)) where
+  module _ (x : std.Result Resolved Refusal) (y : told x ≡ ask o (resolve row f)) where
     copy_is : copy ≡ fitting room (told x)
     copy_is = copy-asks o ∙ ap (fitting room) (sym y)
 
     -- resolve was refused
-    pub copy-refused : {n p : ℕ} → x ≡ resolved.Refused n p → {t u v : List ℕ} → t ≡ kept_nodes nsize o (ask o (resolve row f)) → u ≡ kept_items
+    pub copy-refused : {r : Refusal} → x ≡ Err r → {t u v : List ℕ} → t ≡ kept_nodes nsize o (ask o (resolve row f)) → u ≡ kept_items
         isize o (ask o (resolve row f)) → v ≡ replicate room 0
-        → Copies (bad n p) t u v
+        → Copies (bad (number_of r.0) r.1) t u v
     unfolding fitting part
     copy-refused z a b c = copies (copy_is ∙ ap (λ r. fitting room (told r)) z) (a ∙ ap (kept_nodes nsize o) (sym y ∙ ap told z))
         (b ∙ ap (kept_items isize o) (sym y ∙ ap told z)) (all-zeros room c)
 
-    module _ {place : FilePlace} {size last hops : ℕ} (z : x ≡ resolved.At place size last hops) where
+    module _ {g : Resolved} (z : x ≡ Ok g) where
       -- the buffer is too small
-      pub copy-full : room < size → {t u v : List ℕ} → t ≡ replicate nsize 0 → u ≡ replicate isize 0 → v ≡ replicate room 0 → Copies (bad 22 0) t u v
+      pub copy-full : room < g.size → {t u v : List ℕ} → t ≡ replicate nsize 0 → u ≡ replicate isize 0 → v ≡ replicate room 0 → Copies (bad 22 0) t u v
       unfolding fitting part kept_nodes kept_items
-      copy-full l a b c = copies (copy_is ∙ ap (λ r. fitting room (told r)) z ∙ simp (lt-leb size room l)) a b (all-zeros room c)
+      copy-full l a b c = copies (copy_is ∙ ap (λ r. fitting room (told r)) z ∙ simp (lt-leb g.size room l)) a b (all-zeros room c)
 
       -- the bytes are stored in front, and the rest is cleared
-      pub copy-good : size ≤ room → {t u v v' : List ℕ} → t ≡ kept_nodes nsize o (ask o (resolve row f)) → u ≡ kept_items isize o (ask o (resolve row f))
-          → v ≡ sets out 0 (take (place.0 + size - place.0) (drop place.0 f)) → length v ≡ room → v' ≡ take size v ++ replicate (length v - size) 0
-          → Copies (good (record { place = place.0; size = size; row = last; hops = hops })) t u v'
+      pub copy-good : g.size ≤ room → {t u v v' : List ℕ} → t ≡ kept_nodes nsize o (ask o (resolve row f)) → u ≡ kept_items isize o (ask o (resolve row f))
+          → v ≡ sets out 0 (take (g.place.0 + g.size - g.place.0) (drop g.place.0 f)) → length v ≡ room → v' ≡ take g.size v ++ replicate (length v - g.size) 0
+          → Copies (told (Ok g)) t u v'
       unfolding fitting part
       copy-good l {v = v} a b c n d =
-          let inside : place.0 + size ≤ length f = part-inside f nsize isize row x y z in
-          let long : place.0 + size - place.0 ≡ size = omega arith in
-          let ws : List ℕ = take size (drop place.0 f) in let behind = length-drop place.0 f in
-          let as_long : length ws ≡ size = length-take-le size (drop place.0 f) (omega arith) in
-          let front : v ≡ ws ++ drop (length ws) out = c ∙ ap (λ k. sets out 0 (take k (drop place.0 f))) long ∙ sets-front out ws (omega arith) in
-          copies (copy_is ∙ ap (λ r. fitting room (told r)) z ∙ simp (le-leb size room l)) (a ∙ ap (kept_nodes nsize o) (sym y ∙ ap told z))
+          let inside : g.place.0 + g.size ≤ length f = part-inside f nsize isize row x y z in
+          let long : g.place.0 + g.size - g.place.0 ≡ g.size = omega arith in
+          let ws : List ℕ = take g.size (drop g.place.0 f) in let behind = length-drop g.place.0 f in
+          let as_long : length ws ≡ g.size = length-take-le g.size (drop g.place.0 f) (omega arith) in
+          let front : v ≡ ws ++ drop (length ws) out = c ∙ ap (λ k. sets out 0 (take k (drop g.place.0 f))) long ∙ sets-front out ws (omega arith) in
+          copies (copy_is ∙ ap (λ r. fitting room (told r)) z ∙ simp (le-leb g.size room l)) (a ∙ ap (kept_nodes nsize o) (sym y ∙ ap told z))
           (b ∙ ap (kept_items isize o) (sym y ∙ ap told z))
           (d ∙ padded-behind ws (drop (length ws) out) front (sym as_long) ∙ ap (λ k. padded k ws) n)

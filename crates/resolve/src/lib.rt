@@ -8,73 +8,96 @@ ghost use Rattle.resolve.specs.Resolve.{chain, resolve_row, resolve, copy_into, 
 ghost use Rattle.resolve.specs.Told.{told, Given, Linked};
 
 use cursor::FilePlace;
-use file::Read;
+use refusals::{Reason, Refusal};
 
 // The references that are followed at most.
 pub const MOST_HOPS: u64 = 4;
 
-// Place, length, the row whose unpackers apply, the number of references followed; or a refusal's number and place.
+// Where a resource is: its place and length, the row whose unpackers apply, the number of references followed.
 #[derive(Clone, Copy)]
-pub enum Resolved {
-    At(FilePlace, usize, usize, u64),
-    Refused(u64, usize),
+pub struct Resolved {
+    pub place: FilePlace,
+    pub size: usize,
+    pub last: usize,
+    pub hops: u64,
 }
 
 // Follows references from row k on, where `hops` were followed and `left` more may be. The first `tree` of the rows are the tree's.
-fn follow(nodes: &[u64], tree: usize, count: usize, left: u64, k: usize, hops: u64) -> Resolved
+fn follow(
+    nodes: &[u64],
+    tree: usize,
+    count: usize,
+    left: u64,
+    k: usize,
+    hops: u64,
+) -> Result<Resolved, Refusal>
     requires { (count * node_width ≤ length nodes.now) × (k < count) × (hops + left ≤ 4) × Linked (nodes_in count nodes.now) × (tree ≤ count) × Rising (nodes_in tree nodes.now) }
     ensures { told result ≡ chain left (nodes_in count nodes.now) k hops }
 {
     let row = rows::node_at(nodes, k);
     if row.contained != 0 {
-        return Resolved::Refused(cursor::ENDS_AT_FOLDER, 0);
+        return Err(Refusal(Reason::EndsAtFolder, 0));
     }
     let place = FilePlace(row.target as usize);
     if row.reference == 1 {
-        return Resolved::At(place, row.extent as usize, k, hops);
+        return Ok(Resolved {
+            place,
+            size: row.extent as usize,
+            last: k,
+            hops,
+        });
     }
     if row.reference == 2 {
         if left == 0 {
-            return Resolved::Refused(cursor::TOO_MANY_HOPS, 0);
+            return Err(Refusal(Reason::TooManyHops, 0));
         }
-        return Resolved::At(place, row.extent as usize, k, hops + 1);
+        return Ok(Resolved {
+            place,
+            size: row.extent as usize,
+            last: k,
+            hops: hops + 1,
+        });
     }
     if row.reference != 3 {
-        return Resolved::Refused(cursor::ENDS_AT_URI, 0);
+        return Err(Refusal(Reason::EndsAtUri, 0));
     }
     if left == 0 {
-        return Resolved::Refused(cursor::TOO_MANY_HOPS, 0);
+        return Err(Refusal(Reason::TooManyHops, 0));
     }
     let next = rows::row_starting(nodes, tree, count, place);
     follow(nodes, tree, count, left - 1, next, hops + 1)
 }
 
 // The answer for a row of an accepted file.
-fn resolve_row(nodes: &[u64], tree: usize, count: usize, row: usize) -> Resolved
+#[tactic(auto, using(crate::proofs::Chain::row_none, crate::proofs::Chain::row_there))]
+fn resolve_row(nodes: &[u64], tree: usize, count: usize, row: usize) -> Result<Resolved, Refusal>
     requires { (count * node_width ≤ length nodes.now) × Linked (nodes_in count nodes.now) × (tree ≤ count) × Rising (nodes_in tree nodes.now) }
     ensures { told result ≡ resolve_row row (nodes_in count nodes.now) }
 {
     if count <= row {
-        return Resolved::Refused(cursor::NO_SUCH_ROW, 0);
+        return Err(Refusal(Reason::NoSuchRow, 0));
     }
     follow(nodes, tree, count, MOST_HOPS, row, 0)
 }
 
 // The third question: where the resource of a row is.
-pub fn resolve(file: &[u8], nodes: &mut [u64], items: &mut [u64], row: usize) -> Resolved
+pub fn resolve(
+    file: &[u8],
+    nodes: &mut [u64],
+    items: &mut [u64],
+    row: usize,
+) -> Result<Resolved, Refusal>
     ensures answer { told result ≡ answered nodes.old items.old file.now (resolve row) }
     ensures nodes { nodes.new ≡ nodes_left nodes.old items.old file.now (resolve row) }
     ensures items { items.new ≡ items_left nodes.old items.old file.now (resolve row) }
 {
-    match file::read_file(file, nodes, items) {
-        Read::Refused(n, p) => Resolved::Refused(n, p.0),
-        Read::Is(s) => match resolve_row(nodes, s.tree, s.nodes, row) {
-            Resolved::Refused(n, p) => {
-                rows::clear_all(nodes, items);
-                Resolved::Refused(n, p)
-            }
-            Resolved::At(place, size, last, hops) => Resolved::At(place, size, last, hops),
-        },
+    let s = file::read_file(file, nodes, items)?;
+    match resolve_row(nodes, s.tree, s.nodes, row) {
+        Err(r) => {
+            rows::clear_all(nodes, items);
+            Err(r)
+        }
+        Ok(found) => Ok(found),
     }
 }
 
@@ -83,10 +106,10 @@ pub fn resource<'a>(file: &'a [u8], nodes: &mut [u64], items: &mut [u64], row: u
     ensures { Given row nodes.old items.old file.now result.now nodes.new items.new }
 {
     match resolve(file, nodes, items, row) {
-        Resolved::Refused(_, _) => &file[0..0],
-        Resolved::At(place, size, _, _) => {
-            let at = place.0;
-            &file[at..at + size]
+        Err(_) => &file[0..0],
+        Ok(found) => {
+            let at = found.place.0;
+            &file[at..at + found.size]
         }
     }
 }
@@ -98,27 +121,28 @@ pub fn copy_resource(
     items: &mut [u64],
     row: usize,
     out: &mut [u8],
-) -> Resolved
+) -> Result<Resolved, Refusal>
     ensures answer { told result ≡ answered nodes.old items.old file.now (copy_into row (length out.old)) }
     ensures nodes { nodes.new ≡ nodes_left nodes.old items.old file.now (copy_into row (length out.old)) }
     ensures items { items.new ≡ items_left nodes.old items.old file.now (copy_into row (length out.old)) }
     ensures out { out.new ≡ copy_left out.old nodes.old items.old file.now row }
 {
     match resolve(file, nodes, items, row) {
-        Resolved::Refused(n, p) => {
-            room::clear_bytes(out);
-            Resolved::Refused(n, p)
+        Err(r) => {
+            out.fill(0);
+            Err(r)
         }
-        Resolved::At(place, size, last, hops) => {
-            if size <= out.len() {
-                let at = place.0;
-                room::store_bytes(out, 0, &file[at..at + size]);
-                room::clear_bytes_from(out, size);
-                return Resolved::At(place, size, last, hops);
+        Ok(found) => {
+            let size = found.size;
+            if out.len() < size {
+                rows::clear_all(nodes, items);
+                out.fill(0);
+                return Err(Refusal(Reason::NoRoom, 0));
             }
-            rows::clear_all(nodes, items);
-            room::clear_bytes(out);
-            Resolved::Refused(cursor::NO_ROOM, 0)
+            let at = found.place.0;
+            room::store(out, 0, &file[at..at + size]);
+            room::fill_from(out, size, 0);
+            Ok(found)
         }
     }
 }

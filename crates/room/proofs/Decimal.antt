@@ -3,12 +3,12 @@
 use mathlib.Core.Path.{◌≡◌, refl, sym, ap, ◌∙◌}
 use mathlib.Core.Bool.{Bool, true, false, cond}
 use mathlib.Core.List.{List, [], ◌∷◌, ◌++◌, append_assoc, append-nil}
-use Prim.Native.Nat.{ℕ, zero, suc, ◌+◌, ◌-◌, ◌/◌, ◌%◌, ◌^◌, ◌≤◌, ◌<◌}
+use Prim.Native.Nat.{ℕ, zero, suc, ◌+◌, ◌-◌, ◌*◌, ◌/◌, ◌%◌, ◌^◌, ◌≤◌, ◌<◌}
 use native.Mathlib.Decide.{dec_lt}
 use native.Mathlib.Omega.{arith}
 use lib.Dec.{ltb}
 use lib.ListN.{length, length-append, set}
-use lib.Seq.{sets, set_comm, length-sets}
+use lib.Seq.{sets, set_comm}
 use borrow.Author.Tests.{lt-ltb, le-ltb}
 use Rattle.room.specs.Decimal.{digits, decimal}
 
@@ -57,42 +57,30 @@ pub some-digit : (n : ℕ) → 0 < length (decimal n)
 unfolding decimal digits
 some-digit n = let c = length-append (cond (ltb n 10) [] (digits 19 (n / 10))) ((0x30 + n % 10) ∷ []) in omega arith
 
--- n without its last k digits
-abbrev pub tens : ℕ → ℕ → ℕ
-tens zero n = n
-tens (suc k) n = tens k (n / 10)
-
-tens-most : (k n : ℕ) → tens k n ≤ n
-tens-most zero n = omega arith
-tens-most (suc k) n = omega (arith, tens-most k (n / 10))
-
-passed : (k n : ℕ) → n < 2 ^ 64 → 0 < tens k n → length (decimal n) ≡ length (decimal (tens k n)) + k
-passed zero n h l = omega arith
-passed (suc k) n h l =
-    let a = tens-most k (n / 10) in let b = passed k (n / 10) (omega arith) l in
-    let c = ap length (decimal-more n (omega arith) h) ∙ length-append (decimal (n / 10)) _ in
+-- by the powers of ten that it lies between
+pub sized : (k n : ℕ) → 10 ^ k ≤ n → n < 10 * 10 ^ k → n < 2 ^ 64 → k + 1 ≡ length (decimal n)
+sized zero n l h w = ap length (decimal-one n (omega arith))
+sized (suc k) n l h w =
+    let a = sized k (n / 10) (omega arith) (omega arith) (omega arith) in
+    let c = ap length (decimal-more n (omega arith) w) ∙ length-append (decimal (n / 10)) ((0x30 + n % 10) ∷ []) in
     omega arith
 
--- of the digits of n, those of `rest` and one less than `size` are counted
-pub record Counted (n size rest : ℕ) : Type 0 where
-  pub small : rest ≤ n
-  pub all : size + length (decimal rest) ≡ length (decimal n) + 1
+-- more than one
+more-than-nine : (n : ℕ) → 1 < length (decimal n) → 10 ≤ n
+more-than-nine n l = elim (dec_lt n 10) [
+  | yes h ↦ let e = ap length (decimal-one n h) in omega arith
+  | no h ↦ omega arith
+]
 
-pub counted_start : (n : ℕ) → Counted n 1 n
-counted_start n = record { small = omega arith; all = omega arith }
-
-module _ {n size rest : ℕ} (c : Counted n size rest) where
-  pub counted-on : (k : ℕ) → n < 2 ^ 64 → 0 < tens k rest → {rest' : ℕ} → rest' ≡ tens k rest → Counted n (size + k) rest'
-  counted-on k h l e =
-      let s = c.small in let a = c.all in let b = passed k rest (omega arith) l in
-      let d = ap (λ v. length (decimal v)) e in let t = tens-most k rest in
-      record { small = omega arith; all = omega arith }
-
-  pub counted-end : rest < 10 → size ≡ length (decimal n)
-  counted-end l = let a = c.all in let b = ap length (decimal-one rest l) in omega arith
-
-  pub counted-few : size ≤ 20
-  counted-few = let a = c.all in let b = few-digits n in let d = some-digit rest in omega arith
+-- one alone
+pub up_to_nine : (n : ℕ) → n < 2 ^ 64 → length (decimal n) ≤ 1 → n < 10
+up_to_nine n w l = elim (dec_lt n 10) [
+  | yes h ↦ h
+  | no h ↦
+      let a = some-digit (n / 10) in
+      let c = ap length (decimal-more n (omega arith) w) ∙ length-append (decimal (n / 10)) ((0x30 + n % 10) ∷ []) in
+      omega arith
+]
 
 -- ---- stored
 
@@ -117,10 +105,11 @@ module _ {o : List ℕ} {from n : ℕ} where
   stored-start e = record { after = []; whole = append-nil (decimal n); place = e; small = omega arith; stored = refl }
 
   module _ {o' : List ℕ} {at rest : ℕ} (s : Stored o from n o' at rest) where
-    pub stored-in : (from < at) × (at ≤ from + length (decimal n)) × (length o' ≡ length o)
-    stored-in =
-        let e = s.place in let a = length-append (decimal rest) s.after in let b = ap length s.whole in
-        (let d = some-digit rest in omega arith, omega arith, ap length s.stored ∙ length-sets o at s.after)
+    pub stored-more : from + 1 < at → 10 ≤ rest
+    stored-more l = let e = s.place in more-than-nine rest (omega arith)
+
+    pub stored-one : n < 2 ^ 64 → at ≤ from + 1 → rest < 10
+    stored-one h l = let e = s.place in let y = s.small in up_to_nine rest (omega arith) (omega arith)
 
     pub stored_on : n < 2 ^ 64 → 10 ≤ rest → {d : ℕ} → d ≡ 0x30 + rest % 10 → Stored o from n (set o' (at - 1) d) (at - 1) (rest / 10)
     stored_on h l {d} e =

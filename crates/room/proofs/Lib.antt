@@ -1,6 +1,5 @@
 pub mod Sets
 pub mod Storing
-pub mod Zeros
 pub mod Lies
 pub mod Counting
 pub mod Decimal

@@ -1,36 +1,20 @@
--- Words stored one after the other.
+-- Elements stored one after the other: of a list, and the same one again and again.
 -- Assumes nothing.
-use Prim.Native.Nat.{ℕ, ◌+◌, ◌≤◌, ◌<◌}
-use mathlib.Core.Path.{◌≡◌, refl, sym, ap, ◌∙◌}
-use mathlib.Core.List.{List, [], ◌∷◌}
-use native.Mathlib.Numerals.{add-one}
-use native.Mathlib.Omega.{arith}
-use lib.ListN.{length, take, get_or, set, length-set}
-use lib.Seq.{sets, take-suc, take_all, length-take-le}
-use Rattle.room.proofs.Sets.{sets-append}
+use Rattle.std.proofs.Common.{◌≡◌, ◌+◌, ◌<◌, ◌≤◌, ℕ, List, length, take, drop, replicate, sym, ap, refl, ◌∙◌, arith, slice_set}
+use lib.Seq.{paste}
+use Rattle.std.proofs.lemmas.List.{append_assoc}
+use Rattle.std.proofs.lemmas.List.Edits.{sets, sets-eq, paste_all, fill_from_more}
+use Rattle.std.proofs.lemmas.Slice.{put_mid-paste}
+use borrow.Rule.Slice.PartMut.{put_mid}
 
--- the first i words are stored
-pub record Storing (t : List ℕ) (at : ℕ) (ws : List ℕ) (i : ℕ) (t' : List ℕ) : Type 0 where
-  pub within : i ≤ length ws
-  pub same : length t' ≡ length t
-  pub words : t' ≡ sets t at (take i ws)
+module _ {X : Type 0} where
+  -- the first i elements are y; so is the next
+  pub filled_more : (d : List X) {xs : List X} (i : ℕ) (y : X) → i < length d → xs ≡ paste d 0 (replicate i y) i → slice_set xs i y ≡ paste d 0 (replicate (i + 1) y) (i + 1)
+  filled_more d {xs} i y l k =
+      let e : 0 + i ≡ i = omega arith in
+      ap (λ ws. slice_set ws i y) k ∙ ap (λ j. slice_set (paste d 0 (replicate i y) i) j y) (sym e) ∙ fill_from_more d 0 i y (omega arith)
 
-module _ (t : List ℕ) (at : ℕ) (ws : List ℕ) where
-  pub none : Storing t at ws 0 t
-  none = record { within = omega arith; same = refl; words = refl }
-
-  one_more_lem : (i : ℕ) → i < length ws → set (sets t at (take i ws)) (at + i) (get_or ws i 0) ≡ sets t at (take (i + 1) ws)
-  one_more_lem i l =
-      rw (add-one i, take-suc ws i 0 l)
-      (ap (λ (k : ℕ). set (sets t at (take i ws)) (at + k) (get_or ws i 0)) (sym (length-take-le i ws (omega arith)))
-      ∙ sets-append t at (take i ws) (get_or ws i 0 ∷ []))
-
-  pub more : (i : ℕ) (t' : List ℕ) → i < length ws → Storing t at ws i t' → Storing t at ws (i + 1) (set t' (at + i) (get_or ws i 0))
-  more i t' l s = record {
-    within = omega arith;
-    same = length-set t' (at + i) (get_or ws i 0) ∙ s.same;
-    words = ap (λ (x : List ℕ). set x (at + i) (get_or ws i 0)) s.words ∙ one_more_lem i l;
-  }
-
-  pub all : (i : ℕ) (t' : List ℕ) → length ws ≤ i → Storing t at ws i t' → t' ≡ sets t at ws
-  all i t' l s = s.words ∙ ap (λ (x : List ℕ). sets t at x) (take_all i ws l)
+  -- the part of a list that was written holds the new elements
+  pub stored : (xs new : List X) (at k : ℕ) {ys : List X} → at + length new ≤ length xs → ys ≡ new → length new ≡ k → put_mid at k xs ys ≡ sets xs at new
+  stored xs new at k l e n =
+      put_mid-paste at k xs _ new (length new) e n refl ∙ paste_all xs at new (length new) refl ∙ sym (append_assoc (take at xs) new (drop (at + length new) xs)) ∙ sym (sets-eq new xs at l)

@@ -8,7 +8,7 @@ abbrev pub too_many : ℕ
 too_many = 2 ^ 64 - 1
 
 -- `out` became `out'` when bytes were put at `to`, and r is the place after them, whether they fit or not; where they do not, nothing is said of what
--- is written. So the same writer measures, into a buffer of one byte.
+-- is written. So the same writer measures, into an empty buffer.
 pub record Counts (out out' : List ℕ) (to : ℕ) (bytes : List ℕ) (r : ℕ) : Type 0 where
   pub after : r ≡ min (to + length bytes) too_many
   pub fits : r < too_many → r ≤ length out → out' ≡ sets out to bytes

@@ -1,4 +1,4 @@
-// Lent room: tables of words and buffers of bytes. Cleared, and filled with bytes put one after the other.
+// Lent room: tables of words and buffers of bytes. Filled with one value from a place on, and with bytes put one after the other.
 #![tactic(auto)]
 
 ghost use Rattle.std.specs.Prelude.{◌≡◌, ◌∷◌, [], ◌++◌, ◌+◌, ◌-◌, ◌≤◌, min, length, replicate, take};
@@ -7,74 +7,25 @@ ghost use Rattle.room.specs.Parts.{part};
 ghost use Rattle.room.specs.Counts.{Counts, too_many};
 ghost use Rattle.room.specs.Decimal.{decimal};
 
-// The answer of every call that fills room: the number of bytes written; or the refusal's number and place.
-#[derive(Clone, Copy)]
-pub enum Written {
-    Bytes(usize),
-    Refused(u64, usize),
-}
-
-// Sets every word of the table to 0.
-pub fn clear(table: &mut [u64])
-    ensures { table.new ≡ replicate (length table.old) 0 }
+// Sets every element from `from` on to the value.
+pub fn fill_from<T: Copy>(xs: &mut [T], from: usize, value: T)
+    ensures { xs.new ≡ take from xs.old ++ replicate (length xs.old - from) value }
 {
-    let mut i: usize = 0;
-    while i < table.len() {
-        table[i] = 0;
-        i = i + 1;
+    if from < xs.len() {
+        for x in &mut xs[from..] {
+            *x = value;
+        }
     }
 }
 
-// Sets every word of the table from `from` on to 0.
-pub fn clear_from(table: &mut [u64], from: usize)
-    ensures { table.new ≡ take from table.old ++ replicate (length table.old - from) 0 }
+// Stores other elements from `at` on.
+pub fn store<T: Copy>(xs: &mut [T], at: usize, others: &[T])
+    requires { length others.now ≤ length xs.old - at }
+    ensures { xs.new ≡ sets xs.old at others.now }
 {
-    if from < table.len() {
-        clear(&mut table[from..]);
-    }
-}
-
-// Sets every byte to 0.
-pub fn clear_bytes(bytes: &mut [u8])
-    ensures { bytes.new ≡ replicate (length bytes.old) 0 }
-{
-    let mut at: usize = 0;
-    while at < bytes.len() {
-        bytes[at] = 0;
-        at = at + 1;
-    }
-}
-
-// Sets every byte from `from` on to 0.
-pub fn clear_bytes_from(bytes: &mut [u8], from: usize)
-    ensures { bytes.new ≡ take from bytes.old ++ replicate (length bytes.old - from) 0 }
-{
-    if from < bytes.len() {
-        clear_bytes(&mut bytes[from..]);
-    }
-}
-
-// Stores the words from `at` on.
-pub fn store(table: &mut [u64], at: usize, words: &[u64])
-    requires { at + length words.now ≤ length table.old }
-    ensures { table.new ≡ sets table.old at words.now }
-{
-    let mut i = 0;
-    while i < words.len() {
-        table[at + i] = words[i];
-        i = i + 1;
-    }
-}
-
-// Stores the bytes from `at` on.
-pub fn store_bytes(out: &mut [u8], at: usize, bytes: &[u8])
-    requires { length bytes.now ≤ length out.old - at }
-    ensures { out.new ≡ sets out.old at bytes.now }
-{
-    let mut i = 0;
-    while i < bytes.len() {
-        out[at + i] = bytes[i];
-        i = i + 1;
+    let size = others.len();
+    if 0 < size {
+        xs[at..at + size].copy_from_slice(others);
     }
 }
 
@@ -82,20 +33,17 @@ pub fn store_bytes(out: &mut [u8], at: usize, bytes: &[u8])
 pub fn room_at(size: usize, place: usize) -> usize
     ensures { result ≡ size - place }
 {
-    if place < size { size - place } else { 0 }
+    size.saturating_sub(place)
 }
 
 // A place that is counted stops here: every buffer is shorter.
-pub const TOO_MANY: usize = 18446744073709551615;
+pub const TOO_MANY: usize = usize::MAX;
 
 // The place `size` bytes after `to`.
 pub fn on(to: usize, size: usize) -> usize
     ensures { result ≡ min (to + size) too_many }
 {
-    if TOO_MANY - to <= size {
-        return TOO_MANY;
-    }
-    to + size
+    to.saturating_add(size)
 }
 
 // Puts one byte. A writer is given the place of its first byte and answers the place after its last one, also where the buffer has no room for all of
@@ -118,7 +66,7 @@ pub fn put_bytes(out: &mut [u8], to: usize, bytes: &[u8]) -> usize
     if room_at(out.len(), to) < size {
         return on(to, size);
     }
-    store_bytes(out, to, bytes);
+    store(out, to, bytes);
     to + size
 }
 
@@ -135,22 +83,10 @@ pub fn put_part(out: &mut [u8], to: usize, file: &[u8], from: usize, size: usize
 fn digit_count(n: u64) -> usize
     ensures { result ≡ length (decimal n) }
 {
-    let mut size: usize = 1;
-    let mut rest = n;
-    while 9 < rest {
-        if rest < 100 {
-            return size + 1;
-        }
-        if rest < 1000 {
-            return size + 2;
-        }
-        if rest < 10000 {
-            return size + 3;
-        }
-        size = size + 4;
-        rest = rest / 10000;
+    match n.checked_ilog10() {
+        Some(power) => power as usize + 1,
+        None => 1,
     }
-    size
 }
 
 // Stores the decimal digits from `from` up to `end`, the last one first.
@@ -158,10 +94,8 @@ fn store_digits(out: &mut [u8], from: usize, end: usize, n: u64)
     requires { (end ≡ from + length (decimal n)) × (end ≤ length out.old) }
     ensures { out.new ≡ sets out.old from (decimal n) }
 {
-    let mut at = end;
     let mut rest = n;
-    while 9 < rest {
-        at = at - 1;
+    for at in (from + 1..end).rev() {
         out[at] = 0x30 + (rest % 10) as u8;
         rest = rest / 10;
     }

@@ -98,8 +98,8 @@ pub fn clear_all(nodes: &mut [u64], items: &mut [u64])
     ensures nodes { nodes.new ≡ replicate (length nodes.old) 0 }
     ensures items { items.new ≡ replicate (length items.old) 0 }
 {
-    room::clear(nodes);
-    room::clear(items);
+    nodes.fill(0);
+    items.fill(0);
 }
 
 // The row that starts at the place; `count` if none does. The starts of the first `tree` rows rise.
@@ -111,8 +111,7 @@ pub fn row_starting(nodes: &[u64], tree: usize, count: usize, place: FilePlace) 
     let mut high = tree;
     while low < high {
         let middle = low + (high - low) / 2;
-        let row = node_at(nodes, middle);
-        let start = row.start as usize;
+        let start = node_at(nodes, middle).start as usize;
         if start == place.0 {
             return middle;
         }
@@ -122,13 +121,10 @@ pub fn row_starting(nodes: &[u64], tree: usize, count: usize, place: FilePlace) 
             high = middle;
         }
     }
-    let mut i = tree;
-    while i < count {
-        let row = node_at(nodes, i);
-        if row.start as usize == place.0 {
+    for i in tree..count {
+        if node_at(nodes, i).start as usize == place.0 {
             return i;
         }
-        i = i + 1;
     }
     count
 }

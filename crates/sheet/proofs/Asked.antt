@@ -6,7 +6,10 @@ use mathlib.Core.List.{List, ◌++◌}
 use Prim.Native.Nat.{ℕ, ◌-◌, ◌≤◌, ◌<◌}
 use lib.ListN.{length, replicate, take}
 use borrow.Author.Tests.{le-leb, lt-leb}
-use Rattle.cursor.specs.declared.FilePlace.{FilePlace}
+use Rattle.std.proofs.Common.{Err}
+use Rattle.std.proofs.Common as std
+use Rattle.refusals.specs.Reasons.{number_of}
+use Rattle.refusals.specs.declared.Refusal.{Refusal}
 use Rattle.cursor.specs.declared.Node.{Node}
 use Rattle.cursor.specs.declared.Item.{Item}
 use Rattle.header.specs.Header.{Header}
@@ -15,15 +18,11 @@ use Rattle.rows.specs.Rows.{nodes_in, items_in}
 use Rattle.room.specs.Room.{Result, good, bad}
 use Rattle.file.specs.Asking.{ask, kept_nodes, kept_items}
 use Rattle.file.specs.declared.Summary.{Summary}
-use Rattle.file.specs.declared.Read.{Read}
-use Rattle.file.specs.declared.Read.TheVariants as read
 use Rattle.file.proofs.Rows.{Standing}
 use Rattle.file.proofs.Exits as exits
 use Rattle.sheet.specs.Sheet.{sheet_of, lines_in, fitting, write, write2, write_in, counted, kept}
 use Rattle.room.specs.Told.{told}
 use Rattle.room.specs.Counts.{too_many}
-use Rattle.room.specs.declared.Written.{Written}
-use Rattle.room.specs.declared.Written.TheVariants as written
 use Rattle.room.proofs.Counting.{wrote-all}
 use Rattle.sheet.specs.Inside.{Fills}
 use Rattle.sheet.proofs.Filling.{fills-as, fills-over}
@@ -55,37 +54,37 @@ module _ (second : Bool) (file : List ℕ) (nsize isize : ℕ) (lent : List ℕ)
   room = length lent
 
   -- what the call says of its answer, and of the tables and the buffer that it leaves
-  abbrev pub Says : Reading → Written → List ℕ → List ℕ → List ℕ → Type 0
-  Says o a t u sheet = let x = ask o (write_in second room file) in (told a ≡ counted x) × ((t ≡ kept_nodes nsize o x) × ((u ≡ kept_items isize o x) × (sheet ≡ kept room x)))
+  abbrev pub Says : Reading → Result ℕ → List ℕ → List ℕ → List ℕ → Type 0
+  Says o a t u sheet = let x = ask o (write_in second room file) in (a ≡ counted x) × ((t ≡ kept_nodes nsize o x) × ((u ≡ kept_items isize o x) × (sheet ≡ kept room x)))
 
   -- by what the question answers
-  says-by : (o : Reading) (a : Written) {x : Result (List ℕ)} {t u sheet : List ℕ} → exits.Says nsize isize o (write_in second room file) x t
-      u → told a ≡ counted x → sheet ≡ kept room x → Says o a t u sheet
+  says-by : (o : Reading) (a : Result ℕ) {x : Result (List ℕ)} {t u sheet : List ℕ} → exits.Says nsize isize o (write_in second room file) x t
+      u → a ≡ counted x → sheet ≡ kept room x → Says o a t u sheet
   says-by o a w e z = (e ∙ ap counted w.0, (w.1, (w.2, z ∙ ap (kept room) w.0)))
 
   module _ (o : Reading) {t u : List ℕ} (tn : t ≡ node_table nsize o) (tu : u ≡ item_table isize o) where
-    pub asked-refused : {r : Read} → r ≡ read_of o → {n : ℕ} {p : FilePlace} → r ≡ read.Refused n p → {sheet : List ℕ} → sheet ≡ replicate room
-        0 → Says o (written.Refused n p.0) t u sheet
+    pub asked-refused : {r : std.Result Summary Refusal} → told r ≡ read_of o → {x : Refusal} → r ≡ Err x → {sheet : List ℕ} → sheet ≡ replicate room
+        0 → Says o (bad (number_of x.0) x.1) t u sheet
     unfolding counted kept
-    asked-refused e k z = says-by o (written.Refused _ _) (exits.says-unread nsize isize o (write_in second room file) e k tn tu) refl z
+    asked-refused e k z = says-by o (bad _ _) (exits.says-unread nsize isize o (write_in second room file) e k tn tu) refl z
 
     module _ {s : Summary} (st : Standing file o s t u) {sheet' : List ℕ} {r : ℕ}
         (p : Fills lent sheet' 0 (lines_in second s.version file (nodes_in s.nodes t) (items_in s.items u)) r) where
       puts : Fills lent sheet' 0 (lines_in second st.h.version file st.ns st.is) r
       puts = fills-as (sheet_is second st) p
 
-      pub asked-good : r ≤ room → room < too_many → {sheet'' : List ℕ} → sheet'' ≡ take r sheet' ++ replicate (length sheet' - r) 0 → Says o (written.Bytes r) t u sheet''
+      pub asked-good : r ≤ room → room < too_many → {sheet'' : List ℕ} → sheet'' ≡ take r sheet' ++ replicate (length sheet' - r) 0 → Says o (good r) t u sheet''
       unfolding counted kept
       asked-good e m c =
           let w = wrote-all (puts.fits e) e m c in
           let x = question-is second room file st.h st.ns st.is ∙ fitting-good room _ w.0 in
-          says-by o (written.Bytes r) (exits.says-answer nsize isize o (write_in second room file) st.reads x tn tu) (ap good w.1) w.2
+          says-by o (good r) (exits.says-answer nsize isize o (write_in second room file) st.reads x tn tu) (ap good w.1) w.2
 
-      pub asked-full : room < r → {t' u' sheet'' : List ℕ} → t' ≡ replicate nsize 0 → u' ≡ replicate isize 0 → sheet'' ≡ replicate room 0 → Says o (written.Refused 22 0) t' u' sheet''
+      pub asked-full : room < r → {t' u' sheet'' : List ℕ} → t' ≡ replicate nsize 0 → u' ≡ replicate isize 0 → sheet'' ≡ replicate room 0 → Says o (bad 22 0) t' u' sheet''
       unfolding counted kept
       asked-full e zt zu zs =
           let x = question-is second room file st.h st.ns st.is ∙ fitting-bad room _ (fills-over puts e) in
-          says-by o (written.Refused 22 0) (exits.says-refused nsize isize o (write_in second room file) st.reads x zt zu) refl zs
+          says-by o (bad 22 0) (exits.says-refused nsize isize o (write_in second room file) st.reads x zt zu) refl zs
 
 -- zeros of a length that was kept
 pub zeros : {n m : ℕ} {t : List ℕ} → t ≡ replicate m 0 → m ≡ n → t ≡ replicate n 0

@@ -10,8 +10,7 @@ ghost use Rattle.room.specs.Told.{told};
 ghost use Rattle.sheet.specs.Inside.{Fills, least_text, least_line, least_lines};
 
 use cursor::{Item, Node};
-use file::Read;
-use room::Written;
+use refusals::{Reason, Refusal};
 
 // Puts the first line behind its word and a tab: version, the file's length, the counts of rows.
 fn put_head_fields(
@@ -54,10 +53,8 @@ fn put_node_lines(out: &mut [u8], to: usize, nodes: &[u64], count: usize) -> usi
     ensures { Fills out.old out.new to (node_lines 0 (nodes_in count nodes.now)) result }
 {
     let mut next = to;
-    let mut i = 0;
-    while i < count {
+    for i in 0..count {
         next = put_node_line(out, next, i, rows::node_at(nodes, i));
-        i = i + 1;
     }
     next
 }
@@ -150,14 +147,12 @@ fn may_fit(size: usize, to: usize, items: &[u64], from: usize, end: usize) -> bo
         return false;
     }
     let mut left = (size - to) as u64;
-    let mut i = from;
-    while i < end {
+    for i in from..end {
         let least = least_line(rows::item_at(items, i));
         if left < least {
             return false;
         }
         left = left - least;
-        i = i + 1;
     }
     true
 }
@@ -181,13 +176,11 @@ fn put_item_lines(
         }
     }
     let mut next = to;
-    let mut i = from;
-    while i < end {
+    for i in from..end {
         next = put_visible_line(out, next, file, items, i);
         if out.len() < next {
             return next;
         }
-        i = i + 1;
     }
     next
 }
@@ -197,10 +190,7 @@ fn rows_end(from: usize, rows: u64, count: usize) -> usize
     requires { from ≤ count }
     ensures { result ≡ from + min rows (count - from) }
 {
-    if (count - from) as u64 <= rows {
-        return count;
-    }
-    from + rows as usize
+    from + (rows as usize).min(count - from)
 }
 
 // Puts the line of each node row, and behind it the lines of its visible item rows.
@@ -217,15 +207,13 @@ fn put_group_lines(
     ensures { Fills out.old out.new to (group_lines file.now 0 (nodes_in rows nodes.now) (items_in contents items.now)) result }
 {
     let mut next = to;
-    let mut i = 0;
     let mut first = 0;
-    while i < rows {
+    for i in 0..rows {
         let row = rows::node_at(nodes, i);
         let end = rows_end(first, row.rows, contents);
         next = put_node_line(out, next, i, row);
         next = put_item_lines(out, next, file, items, first, end);
         first = end;
-        i = i + 1;
     }
     next
 }
@@ -262,34 +250,39 @@ fn write_edition(
     items: &mut [u64],
     sheet: &mut [u8],
     second: bool,
-) -> Written
+) -> Result<usize, Refusal>
     ensures answer { told result ≡ counted (answered nodes.old items.old file.now (write_in second (length sheet.old))) }
     ensures nodes { nodes.new ≡ nodes_left nodes.old items.old file.now (write_in second (length sheet.old)) }
     ensures items { items.new ≡ items_left nodes.old items.old file.now (write_in second (length sheet.old)) }
     ensures sheet { sheet.new ≡ kept (length sheet.old) (answered nodes.old items.old file.now (write_in second (length sheet.old))) }
 {
     match file::read_file(file, nodes, items) {
-        Read::Refused(n, p) => {
-            room::clear_bytes(sheet);
-            Written::Refused(n, p.0)
+        Err(r) => {
+            sheet.fill(0);
+            Err(r)
         }
-        Read::Is(s) => {
+        Ok(s) => {
             let end = put_sheet(
                 sheet, file, nodes, items, s.version, s.nodes, s.items, second,
             );
             if sheet.len() < end {
                 rows::clear_all(nodes, items);
-                room::clear_bytes(sheet);
-                return Written::Refused(cursor::NO_ROOM, 0);
+                sheet.fill(0);
+                return Err(Refusal(Reason::NoRoom, 0));
             }
-            room::clear_bytes_from(sheet, end);
-            Written::Bytes(end)
+            room::fill_from(sheet, end, 0);
+            Ok(end)
         }
     }
 }
 
 // Reads a file and writes its support sheet.
-pub fn write_sheet(file: &[u8], nodes: &mut [u64], items: &mut [u64], sheet: &mut [u8]) -> Written
+pub fn write_sheet(
+    file: &[u8],
+    nodes: &mut [u64],
+    items: &mut [u64],
+    sheet: &mut [u8],
+) -> Result<usize, Refusal>
     ensures answer { told result ≡ counted (answered nodes.old items.old file.now (write (length sheet.old))) }
     ensures nodes { nodes.new ≡ nodes_left nodes.old items.old file.now (write (length sheet.old)) }
     ensures items { items.new ≡ items_left nodes.old items.old file.now (write (length sheet.old)) }
@@ -299,7 +292,12 @@ pub fn write_sheet(file: &[u8], nodes: &mut [u64], items: &mut [u64], sheet: &mu
 }
 
 // Reads a file and writes its support sheet in the second edition.
-pub fn write_sheet2(file: &[u8], nodes: &mut [u64], items: &mut [u64], sheet: &mut [u8]) -> Written
+pub fn write_sheet2(
+    file: &[u8],
+    nodes: &mut [u64],
+    items: &mut [u64],
+    sheet: &mut [u8],
+) -> Result<usize, Refusal>
     ensures answer { told result ≡ counted (answered nodes.old items.old file.now (write2 (length sheet.old))) }
     ensures nodes { nodes.new ≡ nodes_left nodes.old items.old file.now (write2 (length sheet.old)) }
     ensures items { items.new ≡ items_left nodes.old items.old file.now (write2 (length sheet.old)) }

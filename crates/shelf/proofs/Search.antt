@@ -7,11 +7,11 @@ use Prim.Native.Nat.{ℕ, suc, ◌+◌, ◌<◌, ◌≤◌}
 use native.Mathlib.Decide.{dec_lt}
 use native.Mathlib.Numerals.{add-one}
 use native.Mathlib.Omega.{arith}
-use lib.Dec.{ltb, eqb, leb-suc-suc}
+use lib.Dec.{ltb, leb-suc-suc}
 use lib.ListN.{length, get_or, drop, drop_of_length-le, length-drop}
 use lib.Seq.{drop-cons}
 use borrow.Author.Tests.{lt-ltb, le-ltb, eq-eqb, ne_eqb}
-use Rattle.shelf.specs.Shelf.{Label, fresh_card, is_free, is_for, label_of, some, first, faulty}
+use Rattle.shelf.specs.Shelf.{fresh_card, is_free, is_for, label_of, some, first, faulty}
 use Rattle.shelf.specs.declared.Card.{Card}
 
 module _ (p : Card → Bool) where
@@ -74,19 +74,6 @@ pub free_not : {c d : Card} → c ≡ d → (c.call ≡ 0 → ⊥) → is_free d
 unfolding is_free
 free_not e z = ap is_free (sym e) ∙ ne_eqb _ _ z
 
-module _ (l : Label) (c : Card) where
-  pub for_desk : (c.desk ≡ l.desk → ⊥) → false ≡ is_for l c
-  unfolding is_for
-  for_desk n = simp (ne_eqb _ _ n)
-
-  pub for_call : c.desk ≡ l.desk → (c.call ≡ l.call → ⊥) → false ≡ is_for l c
-  unfolding is_for
-  for_call d n = simp (eq-eqb _ _ d, ne_eqb _ _ n)
-
-  pub for_boat : c.desk ≡ l.desk → c.call ≡ l.call → eqb c.boat l.boat ≡ is_for l c
-  unfolding is_for
-  for_boat d n = simp (eq-eqb _ _ d, eq-eqb _ _ n)
-
 -- ---- one card's faults
 
 -- a taken card whose sheet is longer than a part, or with desk, call and boat of one of these
@@ -139,7 +126,3 @@ module _ {size : ℕ} {cs : List Card} where
   pub sifting_ends : {i : ℕ} → Sifting size cs i → length cs ≤ i → false ≡ faulty size cs
   unfolding faulty
   sifting_ends {i} k l = sym (k.left ∙ rw (drop_of_length-le cs {i = i} l))
-
--- a test of a card that is this one
-pub by_test : (p : Card → Bool) {c d : Card} {r b : Bool} → c ≡ d → r ≡ p c → r ≡ b → p d ≡ b
-by_test p e q t = ap p (sym e) ∙ sym q ∙ t

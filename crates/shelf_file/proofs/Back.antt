@@ -15,8 +15,7 @@ use Rattle.shelf.specs.Shelf.{Shelf, put_on, drop_from, mapped, after, told}
 use Rattle.shelf.specs.Runs.{Call, putting, getting, dropping, answer, next}
 use Rattle.shelf.specs.Words.{cards_of, words_of, shelf_of, words_with}
 use Rattle.shelf.specs.declared.Card.{Card}
-use Rattle.shelf.proofs.Rows.{words-length, cards-words}
-use Rattle.shelf.proofs.Words.{count, with_same}
+use Rattle.shelf.proofs.Words.{words-length, cards-words, count, with_same}
 use Rattle.shelf_file.specs.Layout.{eight, eights, word_at, words_from, file_of, shelf_in, Bytes, Held, answer_in, file_after}
 use Rattle.shelf_file.proofs.Bytes as bytes
 use Rattle.shelf_file.proofs.Bytes.{eights-length}

@@ -1,16 +1,14 @@
 -- Numbers in bytes, one after the other: put and read. And what a call leaves in the file.
 -- Assumes nothing.
 use mathlib.Core.Path.{◌≡◌, refl, sym, ◌∙◌, ap}
-use mathlib.Core.List.{List, [], ◌∷◌, ◌++◌, append_assoc, append-nil}
+use mathlib.Core.List.{List, [], ◌∷◌, ◌++◌, append_assoc}
 use Prim.Native.Nat.{ℕ, zero, suc, ◌+◌, ◌*◌, ◌<◌, ◌≤◌}
 use native.Mathlib.Nat.{not-suc-le-zero, le_of_suc-le-suc, zero-add}
 use native.Mathlib.Numerals.{add-one}
 use native.Mathlib.Omega.{arith}
-use lib.ListN.{length, get_or, set, drop, replicate, length-append, drop_of_length-le, replicate-append-replicate}
-use lib.Seq.{drop-cons}
+use lib.ListN.{length, get_or, drop, replicate, length-append, drop_of_length-le, replicate-append-replicate}
+use lib.Seq.{drop-cons, ext_get_or}
 use Rattle.room.specs.Decimal.{decimal}
-use Rattle.room.proofs.Sets.{sets-front}
-use Rattle.room.proofs.Storing.{Storing, more, all}
 use Rattle.shelf.specs.Shelf.{fresh_card, fresh}
 use Rattle.shelf.specs.Words.{words_of}
 use Rattle.shelf_file.specs.Layout.{eight, eights, word_at, words_from, file_of, refusal_line}
@@ -30,19 +28,9 @@ words-at (suc n) f p (suc i) l =
     let e : p + 8 + i * 8 ≡ p + suc i * 8 = omega arith in
     words-at n f (p + 8) i (le_of_suc-le-suc l) ∙ ap (λ (q : ℕ). word_at f q) e
 
-module _ (f t : List ℕ) (i : ℕ) {t' : List ℕ} where
-  pub word_more : {v : ℕ} → i < 64 → v ≡ word_at f (i * 8) → Storing t 0 (words_from 64 f 0) i t' → Storing t 0 (words_from 64 f 0) (i + 1) (set t' i v)
-  word_more {v} l e s =
-      let k : length (words_from 64 f 0) ≡ 64 = words-length 64 f 0 in
-      let d : get_or (words_from 64 f 0) i 0 ≡ v = words-at 64 f 0 i l ∙ rw zero-add (sym e) in
-      rw (zero-add, d) at (more t 0 (words_from 64 f 0) i t' (omega arith) s)
-
-  pub words-all : length t ≡ 64 → 64 ≤ i → Storing t 0 (words_from 64 f 0) i t' → t' ≡ words_from 64 f 0
-  words-all n l s =
-      let k : length (words_from 64 f 0) ≡ 64 = words-length 64 f 0 in
-      let z : drop (length (words_from 64 f 0)) t ≡ [] = drop_of_length-le t {i = length (words_from 64 f 0)} (omega arith) in
-      all t 0 (words_from 64 f 0) i t' (omega arith) s ∙ sets-front t (words_from 64 f 0) (omega arith)
-      ∙ ap (λ (x : List ℕ). words_from 64 f 0 ++ x) z ∙ append-nil (words_from 64 f 0)
+-- all of them
+pub words-all : (f t : List ℕ) → length t ≡ 64 → ((k : ℕ) → k < 64 → get_or t k 0 ≡ word_at f (k * 8)) → t ≡ words_from 64 f 0
+words-all f t n h = ext_get_or 0 t (words_from 64 f 0) (n ∙ sym (words-length 64 f 0)) (λ k l. h k (omega arith) ∙ sym (words-at 64 f 0 k (omega arith) ∙ rw zero-add))
 
 -- ---- put
 

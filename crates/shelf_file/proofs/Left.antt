@@ -15,8 +15,7 @@ use Rattle.shelf.specs.Shelf.{Shelf}
 use Rattle.shelf.specs.Runs.{Call, answer, next}
 use Rattle.shelf.specs.Words.{words_of, shelf_of, words_with}
 use Rattle.shelf.specs.declared.Card.{Card}
-use Rattle.shelf.proofs.Words.{count}
-use Rattle.shelf.proofs.Rows.{words-length}
+use Rattle.shelf.proofs.Words.{count, words-length}
 use Rattle.shelf_file.specs.Layout.{eights, words_from, file_of, shelf_in, answer_in, file_after}
 use Rattle.shelf_file.proofs.Bytes as bytes
 use Rattle.shelf_file.proofs.Bytes.{eights-length}

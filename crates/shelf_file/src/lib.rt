@@ -9,7 +9,7 @@ ghost use Rattle.shelf.specs.Runs.{putting, getting, dropping};
 ghost use Rattle.shelf.specs.Told.{told_outcome, told_got};
 ghost use Rattle.shelf_file.specs.Layout.{eight, eights, word_at, words_from, text_bytes, file_of, answer_in, file_after, refusal_line};
 
-use shelf::{Got, Outcome};
+use refusals::{Reason, Refusal};
 
 // The bytes of the cards.
 const CARDS: usize = 512;
@@ -19,26 +19,19 @@ pub const SIZE: usize = 1049088;
 
 // ---- numbers in bytes
 
-// A byte as a number.
-fn wide(b: u8) -> u64
-    ensures { (result ≡ b) × (result < 256) }
-{
-    b as u64
-}
-
 // The number that the eight bytes from a place on say.
 fn word_at(file: &[u8], at: usize) -> u64
     requires { at + 8 ≤ length file.now }
     ensures { result ≡ word_at file.now at }
 {
-    let a = wide(file[at]);
-    let b = wide(file[at + 1]);
-    let c = wide(file[at + 2]);
-    let d = wide(file[at + 3]);
-    let e = wide(file[at + 4]);
-    let f = wide(file[at + 5]);
-    let g = wide(file[at + 6]);
-    let h = wide(file[at + 7]);
+    let a = cursor::wide(file[at]);
+    let b = cursor::wide(file[at + 1]);
+    let c = cursor::wide(file[at + 2]);
+    let d = cursor::wide(file[at + 3]);
+    let e = cursor::wide(file[at + 4]);
+    let f = cursor::wide(file[at + 5]);
+    let g = cursor::wide(file[at + 6]);
+    let h = cursor::wide(file[at + 7]);
     a * 0x100000000000000
         + b * 0x1000000000000
         + c * 0x10000000000
@@ -81,10 +74,8 @@ fn words_in(file: &[u8]) -> [u64; 64]
     ensures { result ≡ words_from 64 file.now 0 }
 {
     let mut words = [0u64; 64];
-    let mut i = 0usize;
-    while i < 64 {
+    for i in 0..64 {
         words[i] = word_at(file, i * 8);
-        i = i + 1;
     }
     words
 }
@@ -94,10 +85,8 @@ fn put_words(out: &mut [u8], words: &[u64]) -> usize
     ensures { Counts out.old out.new 0 (eights words.now) result }
 {
     let mut next = 0usize;
-    let mut i = 0usize;
-    while i < words.len() {
-        next = put_eight(out, next, words[i]);
-        i = i + 1;
+    for word in words {
+        next = put_eight(out, next, *word);
     }
     next
 }
@@ -113,12 +102,12 @@ pub fn new() -> [u8; 1049088]
 }
 
 // Puts a sheet.
-pub fn put(file: &mut [u8], desk: u64, call: u64, boat: u64, sheet: &[u8]) -> Outcome
+pub fn put(file: &mut [u8], desk: u64, call: u64, boat: u64, sheet: &[u8]) -> Result<(), Refusal>
     ensures result_value { told_outcome result ≡ answer_in (putting (label desk call boat) sheet.now) file.old }
     ensures file_value { file.new ≡ file_after (putting (label desk call boat) sheet.now) file.old }
 {
     if file.len() != SIZE {
-        return Outcome::Refused(cursor::DAMAGED_SHELF, 0);
+        return Err(Refusal(Reason::DamagedShelf, 0));
     }
     let mut words = words_in(file);
     let outcome = shelf::put_words(&mut words, &mut file[CARDS..], desk, call, boat, sheet);
@@ -127,25 +116,25 @@ pub fn put(file: &mut [u8], desk: u64, call: u64, boat: u64, sheet: &[u8]) -> Ou
 }
 
 // Gets a sheet into the buffer. A refusal clears it.
-pub fn get(file: &[u8], desk: u64, call: u64, boat: u64, out: &mut [u8]) -> Got
+pub fn get(file: &[u8], desk: u64, call: u64, boat: u64, out: &mut [u8]) -> Result<usize, Refusal>
     ensures result_value { told_got result ≡ counted (answer_in (getting (label desk call boat) (length out.old)) file.now) }
     ensures out_value { out.new ≡ kept (length out.old) (answer_in (getting (label desk call boat) (length out.old)) file.now) }
 {
     if file.len() != SIZE {
-        room::clear_bytes(out);
-        return Got::Refused(cursor::DAMAGED_SHELF, 0);
+        out.fill(0);
+        return Err(Refusal(Reason::DamagedShelf, 0));
     }
     let words = words_in(file);
     shelf::get_words(&words, &file[CARDS..], desk, call, boat, out)
 }
 
 // Drops a sheet.
-pub fn drop(file: &mut [u8], desk: u64, call: u64, boat: u64) -> Outcome
+pub fn drop(file: &mut [u8], desk: u64, call: u64, boat: u64) -> Result<(), Refusal>
     ensures result_value { told_outcome result ≡ answer_in (dropping (label desk call boat)) file.old }
     ensures file_value { file.new ≡ file_after (dropping (label desk call boat)) file.old }
 {
     if file.len() != SIZE {
-        return Outcome::Refused(cursor::DAMAGED_SHELF, 0);
+        return Err(Refusal(Reason::DamagedShelf, 0));
     }
     let mut words = words_in(file);
     let outcome = shelf::drop_words(&mut words, &mut file[CARDS..], desk, call, boat);

@@ -5,8 +5,7 @@
 ghost use Rattle.std.specs.Prelude.{◌≡◌, length};
 
 use console::Host;
-use shelf::{Got, Outcome};
-use spelling::Number;
+use refusals::Refusal;
 use std::io::{Eprint, Input, Print};
 use std::rt::Files;
 
@@ -32,18 +31,18 @@ fn read_shelf(rt: &(impl Files + Input + Eprint), name: &[u8], file: &mut [u8]) 
 }
 
 // Says a refusal.
-fn refused(rt: &impl Eprint, number: u64, place: usize) -> u64 {
+fn refused(rt: &impl Eprint, refusal: Refusal) -> u64 {
     let mut line = io::buffer();
-    let end = shelf_file::put_refusal(&mut line, number, place);
+    let end = shelf_file::put_refusal(&mut line, refusal.0.number(), refusal.1);
     let n = spelling::within(end, &line);
     console::say_refusal(rt, &line[..n], 2)
 }
 
 // What a call leaves: a refusal's line, or its bytes as the file.
-fn leave(rt: &impl Host, name: &[u8], mode: u64, file: &[u8], outcome: Outcome) -> u64 {
+fn leave(rt: &impl Host, name: &[u8], mode: u64, file: &[u8], outcome: Result<(), Refusal>) -> u64 {
     match outcome {
-        Outcome::Refused(number, place) => refused(rt, number, place),
-        Outcome::Done => storage::replace(rt, name, mode, file),
+        Err(refusal) => refused(rt, refusal),
+        Ok(()) => storage::replace(rt, name, mode, file),
     }
 }
 
@@ -79,8 +78,8 @@ fn drop_from(
 fn get_from(rt: &(impl Print + Eprint), desk: u64, call: u64, boat: u64, file: &[u8]) -> u64 {
     let mut sheet = io::large_buffer();
     match shelf_file::get(file, desk, call, boat, &mut sheet) {
-        Got::Refused(number, place) => refused(rt, number, place),
-        Got::Sheet(size) => {
+        Err(refusal) => refused(rt, refusal),
+        Ok(size) => {
             let n = spelling::within(size, &sheet);
             console::write_answer(rt, &sheet[..n], 0)
         }
@@ -150,49 +149,40 @@ fn put_sheet(
 
 fn put_named(rt: &impl Host, name: &[u8], mode: u64, desk: u64, call: u64, boat: u64) -> u64 {
     let mut from = io::buffer();
-    match program::arg(rt, 9, &mut from) {
-        Ok(n) => put_sheet(rt, name, mode, desk, call, boat, &from[..n]),
-        Err(error) => {
-            console::failed(rt, b"the sheet's name", error);
-            1
-        }
+    match console::arg_at(rt, 9, b"the sheet's name", &mut from) {
+        Some(n) => put_sheet(rt, name, mode, desk, call, boat, &from[..n]),
+        None => 1,
     }
 }
 
 // The number that argument i is, and no larger one.
-fn exact_at(rt: &impl Host, i: usize) -> Number {
-    match console::number_at(rt, i) {
-        Number::None => Number::None,
-        Number::Is(n) => {
-            if n < u64::MAX || console::is_word(rt, i, b"18446744073709551615") {
-                return Number::Is(n);
-            }
-            console::trouble(rt, b"a desk, call or boat", b"above 18446744073709551615");
-            Number::None
-        }
+fn exact_at(rt: &impl Host, i: usize) -> Option<u64> {
+    let n = console::number_at(rt, i)?;
+    if n < u64::MAX || console::is_word(rt, i, b"18446744073709551615") {
+        return Some(n);
     }
+    console::trouble(rt, b"a desk, call or boat", b"above 18446744073709551615");
+    None
 }
 
 // MODE DESK CALL BOAT, and for put the sheet's name
 fn labelled(rt: &impl Host, name: &[u8], count: usize) -> u64 {
-    match console::number_at(rt, 5) {
-        Number::None => 1,
-        Number::Is(mode) => match exact_at(rt, 6) {
-            Number::None => 1,
-            Number::Is(desk) => match exact_at(rt, 7) {
-                Number::None => 1,
-                Number::Is(call) => match exact_at(rt, 8) {
-                    Number::None => 1,
-                    Number::Is(boat) => {
-                        if count == 10 {
-                            return put_named(rt, name, mode, desk, call, boat);
-                        }
-                        call_on(rt, name, mode, desk, call, boat, b"")
-                    }
-                },
-            },
-        },
+    let Some(mode) = console::number_at(rt, 5) else {
+        return 1;
+    };
+    let Some(desk) = exact_at(rt, 6) else {
+        return 1;
+    };
+    let Some(call) = exact_at(rt, 7) else {
+        return 1;
+    };
+    let Some(boat) = exact_at(rt, 8) else {
+        return 1;
+    };
+    if count == 10 {
+        return put_named(rt, name, mode, desk, call, boat);
     }
+    call_on(rt, name, mode, desk, call, boat, b"")
 }
 
 // Makes a fresh shelf.
@@ -212,11 +202,8 @@ fn run_named(rt: &impl Host, name: &[u8], count: usize) -> u64 {
 // `new` SHELF; or `put`, `get` or `drop`, SHELF MODE DESK CALL BOAT, and for put the sheet's name. MODE is that of a new file, 4096 where it is the usual one.
 pub fn run(rt: &impl Host, count: usize) -> u64 {
     let mut name = io::buffer();
-    match program::arg(rt, 4, &mut name) {
-        Ok(n) => run_named(rt, &name[..n], count),
-        Err(error) => {
-            console::failed(rt, b"the shelf's name", error);
-            1
-        }
+    match console::arg_at(rt, 4, b"the shelf's name", &mut name) {
+        Some(n) => run_named(rt, &name[..n], count),
+        None => 1,
     }
 }

@@ -14,8 +14,10 @@ use borrow.Author.Tests.{eq-eqb, ne_eqb, eqb-true, eqb-false}
 use Rattle.metadata.specs.Tables.{full_nodes, full_items, limits}
 use Rattle.room.specs.Room.{Result, good, bad, padded, counted, kept}
 use Rattle.room.specs.Told.{told}
-use Rattle.room.specs.declared.Written.{Written}
-use Rattle.room.specs.declared.Written.TheVariants as written
+use Rattle.std.proofs.Common as std
+use Rattle.std.proofs.Common.{Ok, Err}
+use Rattle.refusals.specs.Reasons.{number_of}
+use Rattle.refusals.specs.declared.Refusal.{Refusal}
 use Rattle.file.specs.Reading.{read_file}
 use Rattle.file.specs.Asking.{ask}
 use Rattle.text.specs.Text.{tabbed, number}
@@ -145,9 +147,12 @@ module _ (κs : List ℕ) where
         let b = g.behind in let s : place + (at - place) ≡ at = omega arith in
         record { behind = b; within = g.within; runs = g.runs ∙ rw (next-is at l, ne_eqb (get_or κs at 0) (get_or κs place 0) n, s) }
 
-    pub run-last : length κs ≤ at → Ends κs place at
+    pub run-last : length κs ≤ at → Ends κs place (length κs)
     unfolding runs_from runs_on
-    run-last l = record { behind = g.behind; within = g.within; runs = g.runs ∙ rw (drop_of_length-le κs l) }
+    run-last l =
+        let b = g.behind in let w = g.within in let e : at ≡ length κs = omega arith in
+        let r : Ends κs place at = record { behind = b; within = w; runs = g.runs ∙ rw (drop_of_length-le κs l) } in
+        rw e at r
 
   -- the lines from a place on
   pub lines_next : {place end : ℕ} → Ends κs place end → run_lines (runs_at κs place) ≡ run_line
@@ -182,12 +187,12 @@ module _ (f : List ℕ) {n i : ℕ} (en : full_nodes ≡ n) (ei : full_items ≡
   unfolding reads
   asked_is = rw (← en, ← ei, ← em)
 
-  module _ {w : Written} (e : told w ≡ counted asked) where
-    pub runs-bad : {a b : ℕ} → w ≡ written.Refused a b → (room : ℕ) → refused_by room [] a b ≡ runs_answer room f
+  module _ {w : std.Result ℕ Refusal} (e : told w ≡ counted asked) where
+    pub runs-bad : {r : Refusal} → w ≡ Err r → (room : ℕ) → refused_by room [] (number_of r.0) r.1 ≡ runs_answer room f
     unfolding runs_answer
     runs-bad k room = printed-bad runs_shown room [] (sym asked_is ∙ bad-is asked (sym (ap told k) ∙ e))
 
-    module _ {a : ℕ} (k : w ≡ written.Bytes a) {t : List ℕ} (h : t ≡ kept m asked) where
+    module _ {a : ℕ} (k : w ≡ Ok a) {t : List ℕ} (h : t ≡ kept m asked) where
       pub stored : (a ≤ length t) × (a ≡ length (take a t))
       stored = let l = (good-is m asked (sym (ap told k) ∙ e) h).0 in (l, sym (length-take-le a t l))
 

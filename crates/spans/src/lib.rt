@@ -8,7 +8,6 @@ ghost use Rattle.text.specs.Text.{tabbed};
 ghost use Rattle.spans.specs.Runs.{runs_of, name_of, run_line, run_lines, Ends, runs_answer};
 
 use lines::{Made, conclude, refuse};
-use room::Written;
 
 // Puts the field of a kind: a tab and its name.
 fn put_name(out: &mut [u8], to: usize, kind: u8) -> usize
@@ -44,14 +43,12 @@ fn run_end(kinds: &[u8], place: usize) -> usize
     requires { place < length kinds.now }
     ensures { Ends kinds.now place result }
 {
-    let mut at = place + 1;
-    while at < kinds.len() {
+    for at in place + 1..kinds.len() {
         if kinds[at] != kinds[place] {
             return at;
         }
-        at = at + 1;
     }
-    at
+    kinds.len()
 }
 
 // Puts the lines of the runs of these kinds.
@@ -75,8 +72,8 @@ pub fn make_runs(file: &[u8], text: &mut [u8]) -> Made
     let mut items = program::item_table();
     let mut kinds = program::file_buffer();
     match account::mark(file, &mut nodes, &mut items, &mut kinds) {
-        Written::Refused(n, p) => refuse(text, b"", n, p),
-        Written::Bytes(n) => {
+        Err(e) => refuse(text, b"", e),
+        Ok(n) => {
             let end = put_runs(text, &kinds[..n]);
             conclude(text, b"", end, 0)
         }

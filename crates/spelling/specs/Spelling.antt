@@ -1,29 +1,27 @@
 -- What the words of a command line spell, and what is asked of a title's bytes and of a file's name.
 -- Assumes nothing.
-use Rattle.std.specs.Prelude.{◌≡◌, Bool, true, false, cond, ◌&&◌, ◌||◌, List, [], ◌∷◌, ◌++◌, ℕ, ◌+◌, ◌-◌, ◌*◌, ◌/◌, ◌%◌, ◌≤◌, ◌<◌, min, ltb, leb, ℤ, pos, negsuc, length, get_or}
-use Rattle.spelling.specs.declared.Number.{Number}
-use Rattle.spelling.specs.declared.Number.TheVariants as number
+use Rattle.std.specs.Prelude.{◌≡◌, Bool, true, false, cond, Option, Some, None, ◌&&◌, ◌||◌, List, [], ◌∷◌, ◌++◌, ℕ, ◌+◌, ◌-◌, ◌*◌, ◌/◌, ◌%◌, ◌≤◌, ◌<◌, min, ltb, leb, ℤ, pos, negsuc, length, get_or}
 
 -- ---- a number
 
 -- a number in a word: one that is too large stands for the largest
-unfoldable pub held : ℕ → ℕ
+abbrev pub held : ℕ → ℕ
 held v = min v 18446744073709551615
 
 -- the number that decimal digits spell after those that spell v; none where a byte is no digit
-unfoldable pub number_from : ℕ → List ℕ → Number
-number_from v [] = number.Is (held v)
-number_from v (b ∷ bs) = cond (leb 0x30 b && leb b 0x39) (number_from (v * 10 + (b - 0x30)) bs) number.None
+abbrev pub number_from : ℕ → List ℕ → Option ℕ
+number_from v [] = Some (held v)
+number_from v (b ∷ bs) = cond (leb 0x30 b && leb b 0x39) (number_from (v * 10 + (b - 0x30)) bs) None
 
 -- the number that a word spells; none where it is empty
-unfoldable pub number_of : List ℕ → Number
-number_of [] = number.None
+abbrev pub number_of : List ℕ → Option ℕ
+number_of [] = None
 number_of (b ∷ bs) = number_from 0 (b ∷ bs)
 
 -- ---- bytes in hex
 
 -- the value of a hex digit, and 16 for any other byte
-unfoldable pub hex_value : ℕ → ℕ
+abbrev pub hex_value : ℕ → ℕ
 hex_value b =
     cond (ltb b 0x30) 16 (cond (leb b 0x39) (b - 0x30) (cond (ltb b 0x41) 16 (cond (leb b 0x46) (b - 0x41 + 10) (cond (ltb b 0x61) 16 (cond (leb b 0x66) (b - 0x61 + 10) 16)))))
 
@@ -47,7 +45,7 @@ pub record Spelt (digits old bytes : List ℕ) (right : Bool) : Type 0 where
 -- ---- the descriptor for the status
 
 -- the descriptor that a digit names, and -1 where it names none
-unfoldable pub descriptor_of : ℕ → ℤ
+abbrev pub descriptor_of : ℕ → ℤ
 descriptor_of d = cond (leb 0x31 d && leb d 0x39) (pos (d - 0x30)) (negsuc 0)
 
 -- `--status=` and a digit
@@ -62,7 +60,7 @@ pub record Names (word : List ℕ) (r : ℤ) : Type 0 where
 -- ---- a title's bytes, a name, a buffer
 
 -- whether some byte is 80h or more
-unfoldable pub has_high : List ℕ → Bool
+abbrev pub has_high : List ℕ → Bool
 has_high [] = false
 has_high (b ∷ bs) = leb 0x80 b || has_high bs
 

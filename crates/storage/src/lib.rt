@@ -51,11 +51,6 @@ pub fn read_at(rt: &impl Host, i: usize, what: &[u8], buf: &mut [u8]) -> Option<
     ensures { Inside result buf.new }
 {
     let mut name = io::buffer();
-    match program::arg(rt, i, &mut name) {
-        Ok(n) => read(rt, &name[..n], buf),
-        Err(error) => {
-            console::failed(rt, what, error);
-            None
-        }
-    }
+    let n = console::arg_at(rt, i, what, &mut name)?;
+    read(rt, &name[..n], buf)
 }

@@ -96,11 +96,8 @@ pub fn hand_out(rt: &impl Host, bytes: &[u8], out: usize, new: usize) -> u64 {
         return write_out(rt, bytes);
     }
     let mut name = io::buffer();
-    match program::arg(rt, new, &mut name) {
-        Ok(n) => make_file(rt, &name[..n], console::is_word(rt, out, b"over"), bytes),
-        Err(error) => {
-            console::failed(rt, b"the new file's name", error);
-            1
-        }
+    match console::arg_at(rt, new, b"the new file's name", &mut name) {
+        Some(n) => make_file(rt, &name[..n], console::is_word(rt, out, b"over"), bytes),
+        None => 1,
     }
 }

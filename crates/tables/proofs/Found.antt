@@ -22,12 +22,12 @@ use Rattle.file.proofs.Own.{item-rows}
 use Rattle.sheet.specs.Sheet.{visible_line}
 use Rattle.find.specs.Find.{Wanted, matches, among, look, or_else, first_answer, path, nearest, find, find_own}
 use Rattle.find.specs.Told.{told, question}
-use Rattle.find.specs.declared.Found.{Found}
-use Rattle.find.specs.declared.Found.TheVariants as found
-use Rattle.lines.specs.Answer.{plainly, refused_by, fitted, printed, reads}
+use Rattle.std.proofs.Common as std
+use Rattle.std.proofs.Common.{Ok, Err}
+use Rattle.refusals.specs.declared.Refusal.{Refusal}
+use Rattle.lines.specs.Answer.{plainly, fitted}
 use Rattle.tables.specs.Rows.{item_row, found_lines, found_by, found_answer}
-use Rattle.lines.proofs.Ending.{printed-good, printed-bad}
-use Rattle.lines.proofs.Reading.{full, asked-rows}
+use Rattle.lines.proofs.Reading.{asked-good, asked-rows}
 
 pub found-is : (f : List ℕ) (i : ℕ) (r : Item) {x : Item} → x ≡ r → item_row 0x49 i x ++ visible_line f r ≡ found_lines f (record { row = i; item = r })
 unfolding found_lines
@@ -106,13 +106,9 @@ kept-good : {A : Type 0} (size : ℕ) (o : Reading) {x : Result A} {a : A} → x
 unfolding kept_items
 kept-good size o e = rw e
 
-module _ (f : List ℕ) {n i : ℕ} (en : full_nodes ≡ n) (ei : full_items ≡ i) (room : ℕ) (climbs : Bool) (w : Wanted) (row : ℕ) {r : Found}
+module _ (f : List ℕ) {n i : ℕ} (en : full_nodes ≡ n) (ei : full_items ≡ i) (room : ℕ) (climbs : Bool) (w : Wanted) (row : ℕ) {r : std.Result (ℕ × Item) Refusal}
     (e : told r ≡ ask (read_file (limits n i) f) (question climbs w row f)) where
-  pub found-bad : {m p : ℕ} → r ≡ found.Refused m p → refused_by room [] m p ≡ found_answer room climbs w row f
-  unfolding found_answer
-  found-bad k = printed-bad (found_by f) _ _ (sym (full f en ei (question climbs w row f)) ∙ sym e ∙ ap told k)
-
-  module _ {k : ℕ} {item : Item} (g : r ≡ found.Item k item) {u : List ℕ}
+  module _ {k : ℕ} {item : Item} (g : r ≡ Ok (k, item)) {u : List ℕ}
       (t : u ≡ kept_items i (read_file (limits n i) f) (ask (read_file (limits n i) f) (question climbs w row f))) where
     outcome : ask (read_file (limits n i) f) (question climbs w row f) ≡ good (record { row = k; item = item })
     outcome = sym e ∙ ap told g
@@ -129,8 +125,8 @@ module _ (f : List ℕ) {n i : ℕ} (en : full_nodes ≡ n) (ei : full_items ≡
         let a = asked-rows (read_file (limits n i) f) (question climbs w row f) outcome in
         let h = a.0 in let ns = a.1 in let is = a.2 in
         let z = stands climbs w row f h ns is (record { row = k; item = item }) a.4 in
-        let st = standing f (limits n i) n i {s = summary h ns is} {r = read_of (read_file (limits n i) f)} refl
-        {t = node_table n (read_file (limits n i) f)} {u = u} refl (t ∙ kept-good i (read_file (limits n i) f) outcome) (ap read_of a.3) in
+        let st = standing f (limits n i) n i {s = summary h ns is} {r = Ok (summary h ns is)} (sym (ap read_of a.3))
+        {t = node_table n (read_file (limits n i) f)} {u = u} refl (t ∙ kept-good i (read_file (limits n i) f) outcome) refl in
         let rs = item-rows st in
         let c : length is ≡ length st.is = sym (items-in_length u (length is)) ∙ ap length st.items-are in
         let l : k < length is = z.0 in let x = item-at u (length is) k l in
@@ -148,4 +144,4 @@ module _ (f : List ℕ) {n i : ℕ} (en : full_nodes ≡ n) (ei : full_items ≡
 
     pub found-good : fitted room [] (plainly (found_lines f (record { row = k; item = item_from u (k * item_width) }))) ≡ found_answer room climbs w row f
     unfolding found_answer
-    found-good = rw there.same (printed-good (found_by f) _ _ (sym (full f en ei (question climbs w row f)) ∙ outcome))
+    found-good = rw there.same (asked-good f en ei (question climbs w row f) (found_by f) room [] e (ap told g))

@@ -4,22 +4,18 @@ use mathlib.Core.Path.{◌≡◌, refl}
 use mathlib.Core.List.{List, [], ◌∷◌, ◌++◌}
 use Prim.Native.Nat.{ℕ, ◌-◌}
 use native.Mathlib.Omega.{arith}
-use Rattle.cursor.specs.declared.FilePlace.{FilePlace}
 use Rattle.cursor.specs.declared.Node.{Node}
 use Rattle.cursor.specs.declared.Item.{Item}
 use Rattle.metadata.specs.Tables.{full_nodes, full_items, limits}
 use Rattle.rows.specs.Rows.{node_width, item_width, node_from, nodes_in, item_from, items_in, rows_from}
-use Rattle.room.specs.Room.{good, bad}
-use Rattle.file.specs.Reading.{rows, read_of, read_file}
-use Rattle.file.specs.declared.Read.{Read}
-use Rattle.file.specs.declared.Read.TheVariants as read
+use Rattle.file.specs.Reading.{read_file}
 use Rattle.file.specs.declared.Summary.{Summary}
 use Rattle.file.proofs.Rows.{Standing}
 use Rattle.text.specs.Text.{number}
-use Rattle.lines.specs.Answer.{plainly, refused_by, fitted, printed}
+use Rattle.lines.specs.Answer.{plainly, fitted}
 use Rattle.tables.specs.Rows.{node_numbers, item_numbers, node_row, item_row, node_rows, item_rows, all_rows, rows_answer}
-use Rattle.lines.proofs.Ending.{printed-good, printed-bad}
-use Rattle.lines.proofs.Reading.{Lined, unread, known}
+use Rattle.lines.proofs.Ending.{printed-good}
+use Rattle.lines.proofs.Reading.{Lined, known}
 
 -- ---- lines, as the bytes that are put one after the other
 
@@ -65,10 +61,6 @@ items-start ws count = let e : count - 0 ≡ count = omega arith in rw e
 
 module _ (f : List ℕ) {n i : ℕ} (en : full_nodes ≡ n) (ei : full_items ≡ i) where
   module _ (room : ℕ) where
-    pub rows-bad : {r : Read} → r ≡ read_of (read_file (limits n i) f) → {m : ℕ} {p : FilePlace} → r ≡ read.Refused m p → refused_by room [] m p.0 ≡ rows_answer room f
-    unfolding rows_answer
-    rows-bad e k = printed-bad plainly _ _ (unread f en ei e k (all_rows f))
-
     pub rows-good : {s : Summary} {t u : List ℕ} → Standing f (read_file (limits n i) f) s t u → fitted room []
         (plainly (node_rows 0 (nodes_in s.nodes t) ++ item_rows 0 (items_in s.items u))) ≡ rows_answer room f
     unfolding rows_answer all_rows

@@ -4,7 +4,6 @@ use Rattle.std.specs.Prelude.{Bool, List, [], ◌∷◌, ◌++◌, ℕ, ◌+◌}
 use Rattle.cursor.specs.declared.Node.{Node}
 use Rattle.cursor.specs.declared.Item.{Item}
 use Rattle.room.specs.Room.{good}
-use Rattle.file.specs.Reading.{rows}
 use Rattle.file.specs.Asking.{Asks, ask}
 use Rattle.file.specs.Own.{Numbered}
 use Rattle.text.specs.Text.{number}

@@ -6,7 +6,6 @@ ghost use Rattle.lines.specs.Answer.{Gives};
 ghost use Rattle.tables.specs.Rows.{node_numbers, item_numbers, node_row, item_row, node_rows, item_rows, rows_answer};
 
 use cursor::{Item, Node};
-use file::Read;
 use lines::{Made, conclude, refuse};
 
 // Puts the words of a node row.
@@ -70,10 +69,8 @@ fn put_node_rows(out: &mut [u8], nodes: &[u64], count: usize) -> usize
     ensures { Counts out.old out.new 0 (node_rows 0 (nodes_in count nodes.now)) result }
 {
     let mut next: usize = 0;
-    let mut i = 0;
-    while i < count {
+    for i in 0..count {
         next = put_node_row(out, next, i, rows::node_at(nodes, i));
-        i = i + 1;
     }
     next
 }
@@ -84,10 +81,8 @@ fn put_item_rows(out: &mut [u8], to: usize, items: &[u64], count: usize) -> usiz
     ensures { Counts out.old out.new to (item_rows 0 (items_in count items.now)) result }
 {
     let mut next = to;
-    let mut i = 0;
-    while i < count {
+    for i in 0..count {
         next = put_item_row(out, next, b'i', i, rows::item_at(items, i));
-        i = i + 1;
     }
     next
 }
@@ -98,8 +93,8 @@ pub fn make_rows(file: &[u8], text: &mut [u8]) -> Made
     let mut nodes = program::node_table();
     let mut items = program::item_table();
     match file::read_file(file, &mut nodes, &mut items) {
-        Read::Refused(n, p) => refuse(text, b"", n, p.0),
-        Read::Is(s) => {
+        Err(e) => refuse(text, b"", e),
+        Ok(s) => {
             let a = put_node_rows(text, &nodes, s.nodes);
             let end = put_item_rows(text, a, &items, s.items);
             conclude(text, b"", end, 0)

@@ -3,51 +3,16 @@ ghost use Rattle.std.specs.Prelude.{◌≡◌, ◌≤◌, ◌+◌, ◌*◌, leng
 ghost use Rattle.rows.specs.Rows.{item_width, item_from, ItemIn};
 ghost use Rattle.room.specs.Counts.{Counts};
 ghost use Rattle.file.specs.Asking.{answered, items_left};
-ghost use Rattle.find.specs.Find.{standard, custom};
 ghost use Rattle.find.specs.Told.{wanted_of, told, question};
 ghost use Rattle.lines.specs.Answer.{Gives};
 ghost use Rattle.tables.specs.Rows.{found_lines, found_answer};
 
-use find::{Field, Found};
+use cursor::Item;
+use find::Field;
 use lines::{Made, conclude, refuse};
+use refusals::Refusal;
 
-// Finds by a field's number.
-fn find_number(
-    file: &[u8],
-    nodes: &mut [u64],
-    items: &mut [u64],
-    climbs: bool,
-    row: usize,
-    number: u64,
-) -> Found
-    ensures answer { told result ≡ answered nodes.old items.old file.now (question climbs (standard number) row) }
-    ensures items { items.new ≡ items_left nodes.old items.old file.now (question climbs (standard number) row) }
-{
-    if climbs {
-        return find::find_standard(file, nodes, items, row, number);
-    }
-    find::find_own_standard(file, nodes, items, row, number)
-}
-
-// Finds by a field's name.
-fn find_name(
-    file: &[u8],
-    nodes: &mut [u64],
-    items: &mut [u64],
-    climbs: bool,
-    row: usize,
-    name: &[u8],
-) -> Found
-    ensures answer { told result ≡ answered nodes.old items.old file.now (question climbs (custom name.now) row) }
-    ensures items { items.new ≡ items_left nodes.old items.old file.now (question climbs (custom name.now) row) }
-{
-    if climbs {
-        return find::find_custom(file, nodes, items, row, name);
-    }
-    find::find_own_custom(file, nodes, items, row, name)
-}
-
-// Finds.
+// Finds by a field's number or by its name.
 fn find_field(
     file: &[u8],
     nodes: &mut [u64],
@@ -56,13 +21,17 @@ fn find_field(
     row: usize,
     field: Field,
     name: &[u8],
-) -> Found
+) -> Result<(usize, Item), Refusal>
     ensures answer { told result ≡ answered nodes.old items.old file.now (question climbs (wanted_of field name.now) row) }
     ensures items { items.new ≡ items_left nodes.old items.old file.now (question climbs (wanted_of field name.now) row) }
 {
-    match field {
-        Field::Standard(number) => find_number(file, nodes, items, climbs, row, number),
-        Field::Custom => find_name(file, nodes, items, climbs, row, name),
+    match (field, climbs) {
+        (Field::Standard(number), true) => find::find_standard(file, nodes, items, row, number),
+        (Field::Standard(number), false) => find::find_own_standard(
+            file, nodes, items, row, number,
+        ),
+        (Field::Custom, true) => find::find_custom(file, nodes, items, row, name),
+        (Field::Custom, false) => find::find_own_custom(file, nodes, items, row, name),
     }
 }
 
@@ -88,8 +57,8 @@ pub fn make_found(
     let mut nodes = program::node_table();
     let mut items = program::item_table();
     match find_field(file, &mut nodes, &mut items, climbs, row, field, name) {
-        Found::Refused(n, p) => refuse(text, b"", n, p),
-        Found::Item(i, _) => {
+        Err(e) => refuse(text, b"", e),
+        Ok((i, _)) => {
             let end = put_found(text, file, &items, i);
             conclude(text, b"", end, 0)
         }

@@ -8,8 +8,9 @@ ghost use Rattle.rows.specs.Rows.{node_width, node_at, nodes_in};
 ghost use Rattle.targets.specs.Targets.{offset_at, outside, part_end};
 ghost use Rattle.targets.specs.Told.{taken_by_rows, EndLow, Attached, HeaderIn, Spans};
 
-use cursor::{Cursor, FilePlace, NodePlace, Numbered};
+use cursor::{Cursor, FilePlace, NodePlace};
 use header::Extent;
+use refusals::{Reason, Refusal};
 
 // Where the detached nodes lie that were read: `first` is the first byte that one of them has, or the file's end, and all end at or before `beyond`.
 #[derive(Clone, Copy)]
@@ -93,9 +94,9 @@ pub fn offset_at(file: &[u8], nodes: &[u64], count: usize, i: usize) -> FilePlac
     let row = rows::node_at(nodes, i);
     let start = FilePlace(row.start as usize);
     let at = start.of(NodePlace(row.header as usize));
-    match (Cursor { at }).number(file, FilePlace(file.len()), cursor::CUT_SHORT) {
-        Numbered::Refused(_, place) => place,
-        Numbered::Is(_, next) => next.at,
+    match (Cursor { at }).number(file, FilePlace(file.len()), Reason::CutShort) {
+        Ok((_, next)) => next.at,
+        Err(Refusal(_, place)) => FilePlace(place),
     }
 }
 

@@ -7,7 +7,7 @@ use Prim.Native.Nat.{ℕ, suc, ◌+◌, ◌-◌, ◌/◌, ◌%◌, ◌≤◌, �
 use native.Mathlib.Omega.{arith}
 use lib.ListN.{length, get_or, drop, set}
 use lib.Seq.{sets, drop-cons, drop-drop, take-add}
-use borrow.Author.Tests.{le-leb, lt-leb, eq-eqb, ne_eqb}
+use borrow.Author.Tests.{le-leb, lt-leb}
 use Rattle.room.specs.Parts.{part}
 use Rattle.utf16.specs.Unicode.{bytes_all}
 use Rattle.text.specs.Text.{hex_digits, hex_digit, plain, hexed, escaped, escaped_part}
@@ -23,14 +23,6 @@ module _ (b : ℕ) where
   pub plain-high : 0x20 ≤ b → 0x7E < b → false ≡ plain b
   unfolding plain
   plain-high l h = simp (le-leb 0x20 b l, lt-leb b 0x7E h)
-
-  pub plain-slash : 0x20 ≤ b → b ≤ 0x7E → b ≡ 0x5C → false ≡ plain b
-  unfolding plain
-  plain-slash l h e = simp (le-leb 0x20 b l, le-leb b 0x7E h, eq-eqb b 0x5C e)
-
-  pub plain-is : 0x20 ≤ b → b ≤ 0x7E → (b ≡ 0x5C → ⊥) → true ≡ plain b
-  unfolding plain
-  plain-is l h n = simp (le-leb 0x20 b l, le-leb b 0x7E h, ne_eqb b 0x5C n)
 
   pub escaped-plain : plain b ≡ true → b ∷ [] ≡ escaped b
   unfolding escaped

@@ -5,13 +5,16 @@ use mathlib.Core.Bool.{Bool, true, false, not, ◌&&◌}
 use mathlib.Core.List.{List, [], ◌∷◌, ◌++◌}
 use Prim.Native.Nat.{ℕ, zero, suc, ◌+◌, ◌*◌, ◌-◌, ◌≤◌, ◌<◌}
 use native.Mathlib.Decide.{dec_lt}
+use native.Mathlib.Numerals.{add-one}
 use native.Mathlib.Omega.{arith}
 use lib.Dec.{leb, eqb}
-use lib.ListN.{length, get_or, drop}
+use lib.ListN.{length, get_or, drop, set}
+use lib.Seq.{sets}
 use Rattle.room.specs.Parts.{part}
-use borrow.Author.Tests.{eq-eqb, ne_eqb, eqb-true, leb-true}
+use borrow.Author.Tests.{eqb-true, leb-true}
 use Rattle.room.specs.Room.{Result, good, bad}
 use Rattle.room.specs.Counts.{Counts, too_many}
+use Rattle.room.proofs.Sets.{sets-append}
 use Rattle.room.proofs.Counting.{counts-then, counts-as, part_length}
 use Rattle.utf16.specs.Unicode.{char, utf8, first16, converted, to_utf8, is_good}
 use Rattle.utf16.proofs.Walk.{Bytes}
@@ -54,14 +57,6 @@ module _ (d : List ℕ) (at : ℕ) (h : letter d at ≡ true) where
   letter-first l =
       let e = letter-high in let m = plain-most (get_or d (at + 1) 0) letter-low in
       low-unit d at {left = length d - at} refl (omega arith) (omega arith) (omega arith)
-
-pub letter-none : (d : List ℕ) (at : ℕ) → (get_or d at 0 ≡ 0 → ⊥) → false ≡ letter d at
-unfolding letter
-letter-none d at n = simp (ne_eqb (get_or d at 0) 0 n)
-
-pub letter-is : (d : List ℕ) (at : ℕ) → get_or d at 0 ≡ 0 → plain (get_or d (at + 1) 0) ≡ letter d at
-unfolding letter
-letter-is d at e = simp (eq-eqb (get_or d at 0) 0 e)
 
 -- ---- letters one after the other
 
@@ -114,11 +109,21 @@ unfolding lows
 lows-length d at zero = refl
 lows-length d at (suc n) = ap suc (lows-length d (at + 2) n)
 
-pub lows-at : (d : List ℕ) (at n i : ℕ) → i < n → get_or (lows d at n) i 0 ≡ get_or d (at + 2 * i + 1) 0
+-- one more of them
+lows-more : (d : List ℕ) (at n : ℕ) → lows d at (suc n) ≡ lows d at n ++ get_or d (at + 2 * n + 1) 0 ∷ []
 unfolding lows
-lows-at d at zero i l = absurd (omega arith)
-lows-at d at (suc n) zero l = let e : at + 1 ≡ at + 2 * 0 + 1 = omega arith in ap (λ k. get_or d k 0) e
-lows-at d at (suc n) (suc i) l = let e : at + 2 + 2 * i + 1 ≡ at + 2 * suc i + 1 = omega arith in lows-at d (at + 2) n i (omega arith) ∙ ap (λ k. get_or d k 0) e
+lows-more d at zero = let e : at + 1 ≡ at + 2 * 0 + 1 = omega arith in ap (λ k. get_or d k 0 ∷ []) e
+lows-more d at (suc n) =
+    let e : at + 2 + 2 * n + 1 ≡ at + 2 * suc n + 1 = omega arith in
+    ap (λ (t : List ℕ). get_or d (at + 1) 0 ∷ t) (lows-more d (at + 2) n ∙ ap (λ k. lows d (at + 2) n ++ get_or d k 0 ∷ []) e)
+
+-- the first n are stored; so is the next
+pub lows_stored : (d : List ℕ) (from n : ℕ) (t : List ℕ) (to : ℕ) {t' : List ℕ} → t' ≡ sets t to (lows d from n)
+    → set t' (to + n) (get_or d (from + 2 * n + 1) 0) ≡ sets t to (lows d from (n + 1))
+lows_stored d from n t to e =
+    rw (e, add-one n, lows-more d from n)
+    (ap (λ k. set (sets t to (lows d from n)) (to + k) (get_or d (from + 2 * n + 1) 0)) (sym (lows-length d from n))
+    ∙ sets-append t to (lows d from n) (get_or d (from + 2 * n + 1) 0 ∷ []))
 
 -- ---- a text of letters alone
 

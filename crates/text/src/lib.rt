@@ -7,8 +7,6 @@ ghost use Rattle.utf16.specs.Unicode.{utf8, to_utf8, is_good};
 ghost use Rattle.text.specs.Text.{hex_digits, plain, hexed, escaped, escaped_part, shown, shown_or, unicode_text, number, version_text};
 ghost use Rattle.text.specs.Inside.{PlainUpTo, letter, Letters, lows};
 
-use utf16::Character;
-
 // Puts a tab and a decimal number.
 pub fn put_number(out: &mut [u8], to: usize, n: u64) -> usize
     ensures { Counts out.old out.new to (number n) result }
@@ -18,22 +16,15 @@ pub fn put_number(out: &mut [u8], to: usize, n: u64) -> usize
 }
 
 // Whether a byte stands for itself.
+#[tactic(auto, using(std::proofs::lemmas::Bool::Decides::nat_tests), unfolding(crate::specs::Text::plain))]
 pub fn is_plain(byte: u8) -> bool
     ensures { result ≡ plain byte }
 {
-    if byte < 0x20 {
-        return false;
-    }
-    if byte > 0x7e {
-        return false;
-    }
-    if byte == 0x5c {
-        return false;
-    }
-    true
+    0x20 <= byte && byte <= 0x7e && byte != 0x5c
 }
 
 // The lower-case hex digits.
+#[tactic(auto, unfolding(crate::specs::Text::hex_digits))]
 pub fn hex_digits() -> [u8; 16]
     ensures { result ≡ hex_digits }
 {
@@ -70,14 +61,12 @@ fn plain_end(file: &[u8], from: usize, end: usize) -> usize
     requires { (from ≤ end) × (end ≤ length file.now) }
     ensures { PlainUpTo file.now from result × (result ≤ end) }
 {
-    let mut at = from;
-    while at < end {
+    for at in from..end {
         if !is_plain(file[at]) {
             return at;
         }
-        at = at + 1;
     }
-    at
+    end
 }
 
 // Where bytes that were put end: in the room and in the file.
@@ -93,16 +82,14 @@ fn put_hexes(out: &mut [u8], to: usize, file: &[u8], from: usize, end: usize, he
     ensures { (from ≤ result.at) × (result.at ≤ end) × Counts out.old out.new to (escaped_part file.now from (result.at - from)) result.next }
 {
     let mut next = to;
-    let mut at = from;
-    while at < end {
+    for at in from..end {
         let byte = file[at];
         if is_plain(byte) {
-            return Run { next: next, at: at };
+            return Run { next, at };
         }
         next = put_hex(out, next, byte, hex);
-        at = at + 1;
     }
-    Run { next: next, at: at }
+    Run { next, at: end }
 }
 
 // Puts `size` bytes of the file as text. Bytes that stand for themselves are put together, and so are bytes in hex.
@@ -152,14 +139,12 @@ fn put_shown_char(out: &mut [u8], to: usize, c: u64) -> usize
 }
 
 // Whether the unit at a place is a byte that stands for itself.
+#[tactic(auto, using(std::proofs::lemmas::Bool::Decides::nat_tests), unfolding(crate::specs::Inside::letter))]
 fn is_letter(units: &[u8], at: usize) -> bool
     requires { at + 2 ≤ length units.now }
     ensures { result ≡ letter units.now at }
 {
-    if units[at] != 0 {
-        return false;
-    }
-    is_plain(units[at + 1])
+    units[at] == 0 && is_plain(units[at + 1])
 }
 
 // How many such units follow each other from a place on.
@@ -168,14 +153,12 @@ fn letters(units: &[u8], from: usize) -> usize
     ensures { Letters units.now from result }
 {
     let most = (units.len() - from) / 2;
-    let mut n = 0;
-    while n < most {
+    for n in 0..most {
         if !is_letter(units, from + 2 * n) {
             return n;
         }
-        n = n + 1;
     }
-    n
+    most
 }
 
 // The same where the first character is known: one from 80h up is none of them.
@@ -192,10 +175,7 @@ fn letters_with(units: &[u8], from: usize, first: u64) -> usize
 // Whether the last unit is such a byte.
 fn ends_in_letter(units: &[u8]) -> bool {
     let size = units.len();
-    if size < 2 {
-        return false;
-    }
-    is_letter(units, size - 2)
+    2 <= size && is_letter(units, size - 2)
 }
 
 // Puts the low bytes of `size` units.
@@ -206,10 +186,8 @@ fn put_lows(out: &mut [u8], to: usize, units: &[u8], from: usize, size: usize) -
     if room::room_at(out.len(), to) < size {
         return room::on(to, size);
     }
-    let mut i = 0;
-    while i < size {
+    for i in 0..size {
         out[to + i] = units[from + 2 * i + 1];
-        i = i + 1;
     }
     to + size
 }
@@ -223,10 +201,10 @@ fn put_shown(out: &mut [u8], to: usize, units: &[u8]) -> usize
     let mut next = to;
     while at < units.len() {
         match utf16::char16(units, at) {
-            Character::Bad => {
+            None => {
                 return next;
             }
-            Character::Is(value, size) => {
+            Some((value, size)) => {
                 let n = letters_with(units, at, value);
                 if 0 < n {
                     next = put_lows(out, next, units, at, n);

@@ -1,8 +1,12 @@
 -- The ways through the question: what each exit of the code comes to, answer, tables and buffer.
 -- Assumes nothing.
 use mathlib.Core.Path.{◌≡◌, refl, sym, ap, ap₂, ◌∙◌, subst}
+use Rattle.std.proofs.Common.{Ok, Err}
+use Rattle.std.proofs.Common as std
+use Rattle.refusals.specs.Reasons.{number_of}
+use Rattle.refusals.specs.declared.Refusal.{Refusal}
 use mathlib.Core.Bool.{Bool, true, false, cond}
-use mathlib.Core.List.{List, [], ◌++◌}
+use mathlib.Core.List.{List, ◌++◌}
 use Prim.Native.Nat.{ℕ, ◌+◌, ◌-◌, ◌^◌, ◌≤◌, ◌<◌}
 use native.Mathlib.Decide.{dec_lt}
 use native.Mathlib.Omega.{arith}
@@ -12,7 +16,6 @@ use lib.Seq.{sets, sets-eq, take_at}
 use borrow.Author.Tests.{le-leb, lt-leb, lt-ltb, le-ltb}
 use Rattle.cursor.specs.declared.Node.{Node}
 use Rattle.cursor.specs.declared.Item.{Item}
-use Rattle.cursor.specs.declared.FilePlace.{FilePlace}
 use Rattle.header.specs.Header.{Header}
 use Rattle.metadata.specs.Tables.{limits}
 use Rattle.metadata.specs.declared.Limits.{Limits}
@@ -21,8 +24,6 @@ use Rattle.rows.specs.Rows.{item_at, nodes_in, items_in}
 use Rattle.file.specs.Reading.{rows, read_file, read_of, node_table, item_table}
 use Rattle.file.specs.Asking.{ask, kept_nodes, kept_items, written_nodes, written_items}
 use Rattle.file.specs.declared.Summary.{Summary}
-use Rattle.file.specs.declared.Read.{Read}
-use Rattle.file.specs.declared.Read.TheVariants as read
 use Rattle.file.proofs.Rows.{Standing, ask-refused, refused-nodes, refused-items, ask-is}
 use Rattle.title_text.specs.Title.{elsewhere, is_no_title, titled_file, fitting, correct_title}
 use Rattle.room.specs.Counts.{Counts}
@@ -30,45 +31,47 @@ use Rattle.room.proofs.Counting.{counts-exact}
 use Rattle.title_nodes.specs.Passes.{size_stop}
 use Rattle.title_file.specs.Stands.{Stands}
 use Rattle.title_file.specs.Told.{Fills}
-use Rattle.title.specs.Refusals.{refusal_of}
+use Rattle.title.specs.Refusals.{allowed}
 use Rattle.room.specs.Told.{told}
 use Rattle.title.specs.Told.{Wrote}
-use Rattle.room.specs.declared.Written.{Written}
-use Rattle.room.specs.declared.Written.TheVariants as written
 
 -- ---- the rows' refusals
 
--- the number, and the answer, by the three tests
-abbrev number_by : (a b c : Bool) → ℕ
-number_by a b c = cond a 18 (cond b 36 (cond c 37 0))
+-- a question that is asked where another refuses nothing
+abbrev then : {A : Type 0} → Result (Unit {0}) → Result A → Result A
+then (good u) o = o
+then (bad n p) o = bad n p
 
-abbrev answer_by : (a b c : Bool) → Result (List ℕ) → Result (List ℕ)
-answer_by a b c o = cond a (bad 18 0) (cond b (bad 36 0) (cond c (bad 37 0) o))
+asked-after : (a b c : Bool) (o : Result (List ℕ)) →
+    cond a (bad 18 0) (cond b (bad 36 0) (cond c (bad 37 0) o)) ≡ then (cond a (bad 18 0) (cond b (bad 36 0) (cond c (bad 37 0) (good tt)))) o
+asked-after true b c o = refl
+asked-after false true c o = refl
+asked-after false false true o = refl
+asked-after false false false o = refl
 
-by_some : (a b c : Bool) (o : Result (List ℕ)) → (number_by a b c ≡ 0 → ⊥) → answer_by a b c o ≡ bad (number_by a b c) 0
-by_some true b c o z = refl
-by_some false true c o z = refl
-by_some false false true o z = refl
-by_some false false false o z = absurd (z refl)
+not-elsewhere : (a b c : Bool) → ◌≡◌ {A = Result (Unit {0})} (cond a (bad 18 0) (cond b (bad 36 0) (cond c (bad 37 0) (good tt)))) (good tt) → b ≡ false
+not-elsewhere true b c e = cc
+not-elsewhere false true c e = cc
+not-elsewhere false false c e = refl
 
-by_none : (a b c : Bool) (o : Result (List ℕ)) → number_by a b c ≡ 0 → (b ≡ false) × (answer_by a b c o ≡ o)
-by_none true b c o z = absurd (omega arith)
-by_none false true c o z = absurd (omega arith)
-by_none false false true o z = absurd (omega arith)
-by_none false false false o z = (refl, refl)
+pub rows_stay : (row : ℕ) (ns : List Node) (is : List Item) {r : std.Result (Unit {0}) Refusal} → told r ≡ allowed row ns is → r ≡ Ok tt → elsewhere ns ≡ false
+unfolding allowed
+rows_stay row ns is e k = not-elsewhere (leb (length is) row) (elsewhere ns) (is_no_title (item_at is row)) (sym e ∙ ap told k)
 
 module _ (row : ℕ) (title : List ℕ) (room : ℕ) (f : List ℕ) (h : Header) (ns : List Node) (is : List Item) where
   abbrev g : List ℕ
   g = titled_file row title f h ns is
 
-  pub rows-refuse : {n : ℕ} → n ≡ refusal_of row ns is → (n ≡ 0 → ⊥) → correct_title row title room f h ns is ≡ bad n 0
-  unfolding refusal_of correct_title
-  rows-refuse e z = by_some (leb (length is) row) (elsewhere ns) (is_no_title (item_at is row)) (fitting room g) (λ k. z (e ∙ k)) ∙ ap (λ n. bad n 0) (sym e)
+  rows-first : (a : std.Result (Unit {0}) Refusal) → told a ≡ allowed row ns is → correct_title row title room f h ns is ≡ then (told a) (fitting room g)
+  unfolding allowed correct_title
+  rows-first a e = asked-after (leb (length is) row) (elsewhere ns) (is_no_title (item_at is row)) (fitting room g) ∙ ap (λ v. then v (fitting room g)) (sym e)
 
-  module _ {n : ℕ} (e : n ≡ refusal_of row ns is) (z : n ≡ 0) where
+  pub rows-refuse : {a : std.Result (Unit {0}) Refusal} → told a ≡ allowed row ns is → {x : Refusal} → a ≡ Err x → correct_title row title room f h ns is ≡ bad (number_of x.0) x.1
+  rows-refuse {a} e k = rows-first a e ∙ ap (λ v. then (told v) (fitting room g)) k
+
+  module _ {a : std.Result (Unit {0}) Refusal} (e : told a ≡ allowed row ns is) (z : a ≡ Ok tt) where
     rows-allow : correct_title row title room f h ns is ≡ fitting room g
-    unfolding refusal_of correct_title
-    rows-allow = (by_none (leb (length is) row) (elsewhere ns) (is_no_title (item_at is row)) (fitting room g) (sym e ∙ z)).1
+    rows-allow = rows-first a e ∙ ap (λ v. then (told v) (fitting room g)) z
 
     -- ---- the file's
 
@@ -100,7 +103,7 @@ module _ (row : ℕ) (title : List ℕ) (room : ℕ) (f : List ℕ) (h : Header)
         unfolding fitting
         no_room_lem m = rows-allow ∙ rw (lt-leb (2 ^ 28) (length g) small, lt-ltb room (length g) (omega (arith, size_is))) refl
 
-        pub wrote : r ≤ room → Wrote out (written.Bytes r) (correct_title row title room f h ns is)
+        pub wrote : r ≤ room → Wrote out (Ok r) (correct_title row title room f h ns is)
         unfolding fitting
         wrote m =
             let a : correct_title row title room f h ns is ≡ good g = rows-allow ∙ rw (lt-leb (2 ^ 28) (length g) small, le-ltb room (length g) (omega (arith, size_is))) refl in
@@ -109,13 +112,9 @@ module _ (row : ℕ) (title : List ℕ) (room : ℕ) (f : List ℕ) (h : Header)
             let d : sets lent 0 g ≡ g ++ drop (0 + length g) lent = sets-eq g lent 0 (omega (arith, size_is)) in
             record { is = (g, a, size_is, omega (arith, puts.long), ap (take r) (b ∙ d) ∙ take_at g (drop (0 + length g) lent) r (sym size_is)) }
 
-pub rows_stay : (row : ℕ) (ns : List Node) (is : List Item) {n : ℕ} → n ≡ refusal_of row ns is → n ≡ 0 → elsewhere ns ≡ false
-unfolding refusal_of
-rows_stay row ns is e z = (by_none (leb (length is) row) (elsewhere ns) (is_no_title (item_at is row)) (good []) (sym e ∙ z)).0
-
 -- ---- the call
 
-wrote-was : {out : List ℕ} {r r' : Written} {o : Result (List ℕ)} → Wrote out r o → r ≡ r' → Wrote out r' o
+wrote-was : {out : List ℕ} {r r' : std.Result ℕ Refusal} {o : Result (List ℕ)} → Wrote out r o → r ≡ r' → Wrote out r' o
 wrote-was {out} {o = o} w e = subst (λ v. Wrote out v o) e w
 
 -- zeros of a length that was kept
@@ -137,40 +136,40 @@ module _ (f : List ℕ) (nsize isize row : ℕ) (title : List ℕ) (room : ℕ) 
   result = ask (read_file lim f) (correct_title row title room f)
 
   -- what the call says of its answer, and of the tables and the buffer that it leaves
-  abbrev pub Says : Written → List ℕ → List ℕ → List ℕ → Type 0
+  abbrev pub Says : std.Result ℕ Refusal → List ℕ → List ℕ → List ℕ → Type 0
   Says a t u out = (told a ≡ counted result) × ((t ≡ written_nodes nsize lim result) × ((u ≡ written_items isize lim result) × (out ≡ kept room result)))
 
-  says-bad : {n p : ℕ} → result ≡ bad n p → {t u out : List ℕ} → t ≡ replicate nsize 0 → u ≡ replicate isize 0 → out ≡ replicate room 0 → Says (written.Refused n p) t u out
+  says-bad : (e : Refusal) → result ≡ bad (number_of e.0) e.1 → {t u out : List ℕ} → t ≡ replicate nsize 0 → u ≡ replicate isize 0 → out ≡ replicate room 0 → Says (Err e) t u out
   unfolding counted written_nodes written_items kept
-  says-bad q a b c = rw q (refl, (a, (b, c)))
+  says-bad e q a b c = rw q (refl, (a, (b, c)))
 
-  pub asked-refused : {r : Read} → r ≡ read_of (read_file lim f) → {n : ℕ} {p : FilePlace} → r ≡ read.Refused n p → {t u : List ℕ} → t ≡
+  pub asked-refused : {r : std.Result Summary Refusal} → told r ≡ read_of (read_file lim f) → {x : Refusal} → r ≡ Err x → {t u : List ℕ} → t ≡
       node_table nsize (read_file lim f) → u ≡ item_table isize (read_file lim f) → {out : List ℕ} → out ≡ replicate room 0 → Says
-      (written.Refused n p.0) t u out
+      (Err x) t u out
   unfolding kept_nodes kept_items
   asked-refused e k a b c =
       let q = ask-refused (read_file lim f) e k (correct_title row title room f) in
       let a' = refused-nodes (read_file lim f) (correct_title row title room f) e k nsize a in
       let b' = refused-items (read_file lim f) (correct_title row title room f) e k isize b in
-      says-bad q (rw q at a') (rw q at b') c
+      says-bad _ q (rw q at a') (rw q at b') c
 
   module _ {s : Summary} {t u : List ℕ} (st : Standing f (read_file lim f) s t u) where
     result-is : result ≡ correct_title row title room f st.h (nodes_in s.nodes t) (items_in s.items u)
     result-is = ask-is (reads_as f nsize isize st) (correct_title row title room f)
 
-    module _ {out : List ℕ} {r : Written} (w : Wrote out r (correct_title row title room f st.h (nodes_in s.nodes t) (items_in s.items u))) where
-      pub asked-bad : {n p : ℕ} → r ≡ written.Refused n p → {t' u' out' : List ℕ} → t' ≡ replicate nsize 0 → u' ≡ replicate isize 0 → out' ≡
-          replicate room 0 → Says (written.Refused n p) t' u' out'
-      asked-bad k a b c = says-bad (result-is ∙ (wrote-was w k).is) a b c
+    module _ {out : List ℕ} {r : std.Result ℕ Refusal} (w : Wrote out r (correct_title row title room f st.h (nodes_in s.nodes t) (items_in s.items u))) where
+      pub asked-bad : {x : Refusal} → r ≡ Err x → {t' u' out' : List ℕ} → t' ≡ replicate nsize 0 → u' ≡ replicate isize 0 → out' ≡
+          replicate room 0 → Says (Err x) t' u' out'
+      asked-bad k a b c = says-bad _ (result-is ∙ (wrote-was w k).is) a b c
 
-      module _ {n : ℕ} (k : r ≡ written.Bytes n) where
+      module _ {n : ℕ} (k : r ≡ Ok n) where
         pub file-inside : n ≤ length out
         file-inside = (wrote-was w k).is.3
 
         -- what is written is read again
         pub asked-good : length out ≡ room → {out' : List ℕ} → out' ≡ take n out ++ replicate (length out - n) 0 → length t ≡ nsize → length u ≡ isize → {t' u' : List ℕ}
             → t' ≡ node_table (length t) (read_file (limits (length t) (length u)) (take n out')) → u' ≡ item_table (length u)
-            (read_file (limits (length t) (length u)) (take n out')) → Says (written.Bytes n) t' u' out'
+            (read_file (limits (length t) (length u)) (take n out')) → Says (Ok n) t' u' out'
         unfolding counted written_nodes written_items kept padded
         asked-good lo {out'} c lt lu a b =
             let (g, e, size, inside, front) = (wrote-was w k).is in let q : result ≡ good g = result-is ∙ e in

@@ -14,7 +14,8 @@ use Rattle.rows.specs.Rows.{node_width, item_width, node_from, nodes_from, nodes
 use Rattle.file.specs.Hidden.{is_hidden}
 use Rattle.rows.proofs.Rows.{item-at, items-in_length}
 use Rattle.title_text.specs.Title.{elsewhere, is_no_title}
-use Rattle.title.specs.Refusals.{refusal_of}
+use Rattle.room.specs.Room.{good, bad}
+use Rattle.title.specs.Refusals.{allowed}
 use Rattle.title_nodes.proofs.Rows.{nodes-on}
 
 -- ---- reference 2 or 3
@@ -54,23 +55,23 @@ module _ (ts us : List ℕ) (count total row : ℕ) where
   rows-there : length (items_in total us) ≡ total
   rows-there = items-in_length us total
 
-  pub refuses_row : total ≤ row → 18 ≡ refusal_of row (nodes_in count ts) (items_in total us)
-  unfolding refusal_of
+  pub refuses_row : total ≤ row → bad 18 0 ≡ allowed row (nodes_in count ts) (items_in total us)
+  unfolding allowed
   refuses_row l = rw (rows-there, le-leb total row l) refl
 
   module _ (l : row < total) where
-    by_tests : refusal_of row (nodes_in count ts) (items_in total us) ≡ cond (elsewhere (nodes_in count ts)) 36 (cond (is_no_title (item_from us (row * item_width))) 37 0)
-    unfolding refusal_of
+    by_tests : allowed row (nodes_in count ts) (items_in total us) ≡ cond (elsewhere (nodes_in count ts)) (bad 36 0) (cond (is_no_title (item_from us (row * item_width))) (bad 37 0) (good tt))
+    unfolding allowed
     by_tests = rw (rows-there, lt-leb total row l, item-at us total row l) refl
 
     module _ {a b : Bool} (p : a ≡ elsewhere (nodes_in count ts)) (q : b ≡ is_no_title (item_from us (row * item_width))) where
-      pub refuses_reference : a ≡ true → 36 ≡ refusal_of row (nodes_in count ts) (items_in total us)
+      pub refuses_reference : a ≡ true → bad 36 0 ≡ allowed row (nodes_in count ts) (items_in total us)
       refuses_reference e = sym (by_tests ∙ rw (sym p ∙ e) refl)
 
-      pub refuses_content : a ≡ false → b ≡ true → 37 ≡ refusal_of row (nodes_in count ts) (items_in total us)
+      pub refuses_content : a ≡ false → b ≡ true → bad 37 0 ≡ allowed row (nodes_in count ts) (items_in total us)
       refuses_content e h = sym (by_tests ∙ rw (sym p ∙ e, sym q ∙ h) refl)
 
-      pub refuses_none : a ≡ false → b ≡ false → 0 ≡ refusal_of row (nodes_in count ts) (items_in total us)
+      pub refuses_none : a ≡ false → b ≡ false → good tt ≡ allowed row (nodes_in count ts) (items_in total us)
       refuses_none e h = sym (by_tests ∙ rw (sym p ∙ e, sym q ∙ h) refl)
 
 -- ---- a content that is no title

@@ -1,6 +1,8 @@
 -- The header of a file that was read, read once more.
 -- Assumes nothing.
 use mathlib.Core.Path.{◌≡◌, refl, sym, ap, ◌∙◌, subst}
+use Rattle.std.proofs.Common.{Result, Ok, Err}
+use Rattle.refusals.specs.declared.Refusal.{Refusal}
 use mathlib.Core.List.{List, map}
 use Prim.Native.Nat.{ℕ, ◌+◌, ◌-◌, ◌≤◌, ◌<◌}
 use native.Mathlib.Omega.{arith}
@@ -8,14 +10,11 @@ use lib.ListN.{length, take, drop}
 use Rattle.machine.specs.Machine.{ok, refused, run}
 use Rattle.room.specs.Parts.{part, joined}
 use Rattle.vlq.specs.Vlq.{sized}
-use Rattle.cursor.specs.declared.FilePlace.{FilePlace}
 use Rattle.cursor.specs.declared.Node.{Node}
 use Rattle.cursor.specs.declared.Item.{Item}
 use Rattle.header.specs.Header as spec
 use Rattle.header.specs.Told.{header_of, header_told}
 use Rattle.header.specs.declared.Header.{Header}
-use Rattle.header.specs.declared.Headed.{Headed}
-use Rattle.header.specs.declared.Headed.TheVariants as headed
 use Rattle.metadata.specs.declared.Limits.{Limits}
 use Rattle.file.specs.Reading.{rows, read_file}
 use Rattle.file.proofs.Follow.{read_back}
@@ -33,11 +32,11 @@ ok-left : {A : Type 0} {a b : A} {p q : ℕ} → ok a p ≡ ok b q → a ≡ b
 ok-left e = cc
 
 module _ (lim : Limits) (f : List ℕ) {h : spec.Header} {ns : List Node} {is : List Item} (reads : read_file lim f ≡ rows h ns is)
-    (r : Headed) (ws : List ℕ) (e : header_told r ws ≡ run (spec.header (length f)) f 0) where
-  pub never_refused : {n : ℕ} {p : FilePlace} {B : Type 0} → r ≡ headed.Refused n p → B
+    (r : Result Header Refusal) (ws : List ℕ) (e : header_told r ws ≡ run (spec.header (length f)) f 0) where
+  pub never_refused : {x : Refusal} {B : Type 0} → r ≡ Err x → B
   never_refused k = never (sym (ap (λ v. header_told v ws) k) ∙ e ∙ (read_back lim f reads).header_is)
 
-  module _ {g : Header} (k : r ≡ headed.Is g) where
+  module _ {g : Header} (k : r ≡ Ok g) where
     header-same : header_of g ws ≡ h
     header-same = ok-left (sym (ap (λ v. header_told v ws) k) ∙ e ∙ (read_back lim f reads).header_is)
 

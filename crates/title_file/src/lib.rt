@@ -11,7 +11,7 @@ ghost use Rattle.title_file.specs.Stands.{Stands};
 ghost use Rattle.title_file.specs.Told.{Fills, file_anew, PutTitled};
 
 use cursor::FilePlace;
-use header::{Extent, Headed};
+use header::Extent;
 
 // The bytes of TreeEnd, where FileLength has x bytes and TreeStart y, and `fixed` bytes before the tree are in none of the three.
 fn last_bytes(fixed: usize, tree: usize, x: usize, y: usize) -> usize
@@ -90,8 +90,7 @@ fn put_file(
     if tree == title_nodes::SIZE_STOP {
         return tree;
     }
-    let mut scratch = [0u8; 1];
-    let types = title_nodes::stopped(title_parts::put_types(&mut scratch, 0, file, opening));
+    let types = title_nodes::stopped(title_parts::put_types(&mut [], 0, file, opening));
     let end = extent.end;
     let start = extent.start;
     let last = extent.last;
@@ -140,14 +139,11 @@ pub fn put_titled(
     ensures { PutTitled (task file.now nodes.now items.now count total row title.now) out.old out.new result }
 {
     let mut types = [0u64; header::MOST_TYPES * 2];
-    match header::read_header(file, &mut types) {
-        Headed::Refused(_, _) => 0,
-        Headed::Is(h) => {
-            let opening = opening_of(h.version);
-            let extent = h.extent;
-            put_file(
-                out, file, nodes, items, opening, extent, count, total, row, title,
-            )
-        }
-    }
+    let Ok(h) = header::read_header(file, &mut types) else {
+        return 0;
+    };
+    let opening = opening_of(h.version);
+    put_file(
+        out, file, nodes, items, opening, h.extent, count, total, row, title,
+    )
 }

@@ -10,16 +10,15 @@ use lib.Dec.{eqb, leb}
 use lib.ListN.{length, take, drop, length-append}
 use borrow.Author.Tests.{eq-eqb, ne_eqb, le-leb, lt-leb, lt-ltb, le-ltb}
 use Rattle.room.specs.Parts.{part, joined}
-use Rattle.vlq.specs.Vlq.{from, least, vlq, sized}
+use Rattle.vlq.specs.Vlq.{least, vlq, sized}
 use Rattle.cursor.specs.declared.Item.{Item}
-use Rattle.rows.specs.Rows.{item_width, item_from, ItemIn, ItemRows}
+use Rattle.rows.specs.Rows.{item_width, item_from, ItemIn}
 use Rattle.title_text.specs.Description.{Content, content, titled}
 use Rattle.title_text.specs.Text.{further, field_text, item_text, universal_text, version_text, content_text, items_text}
 use Rattle.vlq.proofs.Least.{vlq-length}
 use Rattle.room.specs.Counts.{Counts, too_many}
-use Rattle.room.proofs.Counting.{Going, going_start, going_on, going_end, counts-as, put_two, part_length, lent-part}
+use Rattle.room.proofs.Counting.{counts-as, put_two, part_length, lent-part}
 use Rattle.vlq.proofs.Sized.{put-block, put-counted}
-use Rattle.title_text.proofs.Counted.{counts-number}
 use Rattle.title_items.specs.Contents.{content_at, contents_from, row_of, row_text}
 
 -- ---- a content with given data
@@ -208,69 +207,3 @@ module _ (f : List ℕ) (row : ℕ) (title us : List ℕ) (end : ℕ) where
 
   pub rows_end : (k : ℕ) → end ≤ k → items_text (contents_from f row title us k (end - k)) ≡ []
   rows_end k l = ap items_text (contents-end f row title us k end l) ∙ rows_none
-
--- ---- what is only counted
-
-pub zero-counted : {to q : ℕ} → q ≡ min (to + 1) too_many → Counts [] [] to (vlq 0) q
-unfolding least from
-zero-counted e = counts-number 0 {n = 1} refl e
-
-module _ (f : List ℕ) (r : Item) {to q : ℕ} where
-  pub custom-counted : ItemIn (length f) r → r.name_length ≤ too_many → r.kind ≡ 1 →
-      ((s : List ℕ) → r.name_length ≡ min (length s) too_many → Counts [] [] to (sized s) q) → Counts [] [] to (field_text (content f r)) q
-  unfolding field_text content
-  custom-counted (a, inl z) few e p = absurd (omega arith)
-  custom-counted (a, inr l) few e p = rw (eq-eqb r.kind 1 e) (p (part f r.field r.name_length) (omega (arith, part_length f r.field r.name_length l)))
-
-  pub standard-counted : (r.kind ≡ 1 → ⊥) → {n k : ℕ} → n ≡ min (to + 1) too_many → k ≡ least (λ _. r.field) → q ≡ min (n + k) too_many →
-      Counts [] [] to (field_text (content f r)) q
-  standard-counted e a b c = field-standard f r e (zero-counted a) (counts-number r.field b c)
-
-module _ (bytes : List ℕ) {size to q : ℕ} (e : size ≡ length bytes) where
-  pub universal-counted : (format : ℕ) {k n : ℕ} → k ≡ least (λ _. format) → n ≡ min (k + size) too_many → ((s : List ℕ) → n ≡ min (length s) too_many → Counts [] [] to (sized s) q)
-      → Counts [] [] to (sized (joined (vlq format ∷ bytes ∷ []))) q
-  universal-counted format a b p = p (joined (vlq format ∷ bytes ∷ [])) (omega (arith, vlq-length format, length-append (vlq format) (bytes ++ []), length-append bytes []))
-
-  pub version-counted : (declared : ℕ) {k n : ℕ} → k ≡ least (λ _. declared) → n ≡ min (to + k) too_many →
-      ((s : List ℕ) → size ≡ min (length s) too_many → Counts [] [] n (sized s) q)
-      → size ≤ too_many → Counts [] [] to (joined (vlq declared ∷ sized bytes ∷ [])) q
-  version-counted declared a b p few = put_two (vlq declared) (sized bytes) (counts-number declared a b) (p bytes (omega arith))
-
-module _ (f : List ℕ) (row : ℕ) (title us : List ℕ) (k : ℕ) {r : Item} (e : r ≡ item_from us (k * item_width)) {to q : ℕ} where
-  pub title-counted : k ≡ row → Counts [] [] to (content_text (titled title (content f r))) q → Counts [] [] to (content_text (content_at f row title us k)) q
-  title-counted h p = content-title f row title us k e h (rw e at p)
-
-  pub file-counted : (k ≡ row → ⊥) → ItemIn (length f) (item_from us (k * item_width)) →
-      ((bytes : List ℕ) → r.size ≡ length bytes → Counts [] [] to (content_text (titled bytes (content f r))) q)
-      → Counts [] [] to (content_text (content_at f row title us k)) q
-  file-counted h i p =
-      let (a, b) = row_inside e i in
-      let z : r.place + r.size - r.place ≡ r.size = omega arith in
-      let bytes : List ℕ = take (r.place + r.size - r.place) (drop r.place f) in
-      content-file f row title us k e h refl
-      (subst (λ (v : Item). Counts [] [] to (content_text (titled bytes (content f v))) q) e (p bytes (rw z (sym (part_length f r.place r.size a)))))
-
--- rows `first` to k are counted
-pub record Summing (us : List ℕ) (first end row size next k : ℕ) : Type 0 where
-  pub within : (first ≤ k) × (k ≤ end)
-  pub counted : (f title : List ℕ) → ItemRows (length f) end us → size ≡ length title → Going [] [] 0 next
-      (items_text (contents_from f row title us first (end - first))) (items_text (contents_from f row title us k (end - k)))
-
-pub summing_start : {us : List ℕ} {first end row size : ℕ} → first ≤ end → Summing us first end row size 0 first
-summing_start l = record { within = (omega arith, l); counted = λ f title i e. going_start [] (omega arith) refl }
-
-pub summing_on : {us : List ℕ} {first end row size next k : ℕ} → Summing us first end row size next k → k < end → {q : ℕ}
-    → ((f title : List ℕ) → ItemIn (length f) (item_from us (k * item_width)) → size ≡ length title → Counts [] [] next
-    (row_text f row title us k end) q) → Summing us first end row size q (k + 1)
-summing_on {us} {end = end} {row} {k = k} w l p =
-    let i = w.within in
-    record {
-      within = (omega arith, omega arith);
-      counted = λ f title inside e. going_on (rows_on f row title us end k l)
-          (w.counted f title inside e) (p f title (inside.1 k l) e);
-    }
-
-pub summing_end : {us : List ℕ} {first end row size next k : ℕ} → Summing us first end row size next k → end ≤ k → (f title : List ℕ) →
-    ItemRows (length f) end us → size ≡ length title
-    → Counts [] [] 0 (items_text (contents_from f row title us first (end - first))) next
-summing_end {us} {end = end} {row} {k = k} w l f title inside e = going_end (rows_end f row title us end k l) (w.counted f title inside e)

@@ -92,14 +92,12 @@ fn further(items: &[u64], first: usize, end: usize) -> u64
     ensures count { (f : List ℕ) (row : ℕ) (title : List ℕ) → result ≡ text.further (contents_from f row title items.now first (end - first)) }
     ensures few { result ≤ end - first }
 {
-    let mut k = first;
-    while k < end {
+    for k in first..end {
         if rows::item_at(items, k).version <= 1 {
             return (k - first) as u64;
         }
-        k = k + 1;
     }
-    (k - first) as u64
+    (end - first) as u64
 }
 
 // Puts what the item of row k has before its contents, the rows before row `end`: its field and the number of versions.
@@ -136,7 +134,7 @@ fn put_item(
     put_content_at(out, to, file, items, k, row, title)
 }
 
-// Puts the item rows from row `first` on, up to row `end`.
+// Puts the item rows from row `first` on, up to row `end`. Into an empty buffer they are measured.
 pub fn put_items(
     out: &mut [u8],
     to: usize,
@@ -151,88 +149,8 @@ pub fn put_items(
     ensures { Counts out.old out.new to (items_text (contents_from file.now row title.now items.now first (end - first))) result }
 {
     let mut next = to;
-    let mut k = first;
-    while k < end {
+    for k in first..end {
         next = put_item(out, next, file, items, k, end, row, title);
-        k = k + 1;
-    }
-    next
-}
-
-// Counts the bytes of a block of `size` bytes with its length, from `to` on. What is counted is as what is put, with no buffer.
-fn measure_block(to: usize, size: usize) -> usize
-    ensures { (s : List ℕ) → size ≡ min (length s) too_many → Counts [] [] to (sized s) result }
-{
-    room::on(room::on(to, vlq::vlq_size(size as u64)), size)
-}
-
-// Counts the bytes of the field of an item row.
-fn measure_field(to: usize, item: Item) -> usize
-    ensures { (f : List ℕ) → ItemIn (length f) item → Counts [] [] to (field_text (content f item)) result }
-{
-    if item.kind == 1 {
-        return measure_block(to, item.name_length as usize);
-    }
-    room::on(room::on(to, 1), vlq::vlq_size(item.field))
-}
-
-// Counts the bytes of the content of an item row with data of `size` bytes.
-fn measure_content(to: usize, item: Item, size: usize) -> usize
-    ensures { (f bytes : List ℕ) → size ≡ length bytes → Counts [] [] to (content_text (titled bytes (content f item))) result }
-{
-    if item.version == 0 {
-        return measure_block(to, room::on(vlq::vlq_size(item.format), size));
-    }
-    measure_block(room::on(to, vlq::vlq_size(item.declared)), size)
-}
-
-// Counts the bytes of the content of item row k: row `row` with a title of `size` bytes, and another with the file's data.
-fn measure_content_at(to: usize, items: &[u64], k: usize, row: usize, size: usize) -> usize
-    requires { k * item_width + item_width ≤ length items.now }
-    ensures { (f title : List ℕ) → RowIn f items.now k → size ≡ length title → Counts [] [] to (content_text (content_at f row title items.now k)) result }
-{
-    let item = rows::item_at(items, k);
-    if row == k {
-        return measure_content(to, item, size);
-    }
-    measure_content(to, item, item.size as usize)
-}
-
-// Counts the bytes of what the item of row k has before its contents, the rows before row `end`.
-fn measure_start(to: usize, items: &[u64], k: usize, end: usize) -> usize
-    requires { (k < end) × (end * item_width ≤ length items.now) }
-    ensures { (f : List ℕ) (row : ℕ) (title : List ℕ) → RowIn f items.now k → Counts [] [] to (front_text f row title items.now k end) result }
-{
-    let item = rows::item_at(items, k);
-    let a = measure_field(to, item);
-    if item.version == 0 {
-        return room::on(a, 1);
-    }
-    room::on(a, vlq::vlq_size(1 + further(items, k + 1, end)))
-}
-
-// Counts the bytes of item row k, with what its item has before it where it is the first of the item.
-fn measure_item(to: usize, items: &[u64], k: usize, end: usize, row: usize, size: usize) -> usize
-    requires { (k < end) × (end * item_width ≤ length items.now) }
-    ensures { (f title : List ℕ) → RowIn f items.now k → size ≡ length title → Counts [] [] to (row_text f row title items.now k end) result }
-{
-    if rows::item_at(items, k).version <= 1 {
-        let a = measure_start(to, items, k, end);
-        return measure_content_at(a, items, k, row, size);
-    }
-    measure_content_at(to, items, k, row, size)
-}
-
-// The bytes of the item rows from row `first` on, up to row `end`, where row `row` has a title of `size` bytes.
-pub fn items_size(items: &[u64], first: usize, end: usize, row: usize, size: usize) -> usize
-    requires { (first ≤ end) × (end * item_width ≤ length items.now) }
-    ensures { (f title : List ℕ) → ItemRows (length f) end items.now → size ≡ length title → Counts [] [] 0 (items_text (contents_from f row title items.now first (end - first))) result }
-{
-    let mut next: usize = 0;
-    let mut k = first;
-    while k < end {
-        next = measure_item(next, items, k, end, row, size);
-        k = k + 1;
     }
     next
 }

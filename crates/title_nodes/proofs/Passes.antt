@@ -6,7 +6,7 @@ use mathlib.Core.List.{List, [], ◌∷◌, ◌++◌, append_assoc}
 use Prim.Native.Nat.{ℕ, zero, suc, ◌+◌, ◌-◌, ◌≤◌, ◌<◌, min}
 use native.Mathlib.Decide.{dec_le, dec_lt}
 use native.Mathlib.Omega.{arith}
-use lib.ListN.{length, get_or, take, drop, set, length-append, length-drop, length-set}
+use lib.ListN.{length, get_or, take, drop, set, drop_of_length-le, length-append, length-drop, length-set}
 use lib.Seq.{drop-cons, drop-length, drop-drop, take_all, get_or-set_same, get_or-set_other}
 use Rattle.room.specs.Parts.{part, joined}
 use Rattle.cursor.specs.declared.Node.{Node}
@@ -29,25 +29,24 @@ use Rattle.title_nodes.proofs.Nodes.{texts-within}
 
 -- ---- a sum that stops
 
--- what was added, and what is left
-pub record Adding (ws : List ℕ) (from end r k : ℕ) : Type 0 where
-  pub within : (from ≤ k) × (k ≤ end)
+-- what was added of the first i words, and what is left
+pub record Adding (ws : List ℕ) (r i : ℕ) : Type 0 where
   pub few : r ≤ size_stop
-  pub same : min (r + sum_of (part ws k (end - k))) size_stop ≡ min (sum_of (part ws from (end - from))) size_stop
+  pub same : min (r + sum_of (drop i ws)) size_stop ≡ min (sum_of ws) size_stop
 
-pub adding_start : (ws : List ℕ) (from end : ℕ) → from ≤ end → Adding ws from end 0 from
-adding_start ws from end l = record { within = (omega arith, l); few = omega arith; same = omega arith }
+pub adding_start : (ws : List ℕ) → Adding ws 0 0
+adding_start ws = record { few = omega arith; same = omega arith }
 
-pub adding_on : {ws : List ℕ} {from end r k : ℕ} → Adding ws from end r k → k < end → end ≤ length ws → {q : ℕ} → q ≡ min (r + get_or ws k 0) size_stop → Adding ws from end q (k + 1)
-adding_on {ws} {from} {end} {r} {k} a l m {q} e =
-    let w = a.within in let i : end - k ≡ suc (end - (k + 1)) = omega arith in let j : suc k ≡ k + 1 = omega arith in
-    let p : part ws k (end - k) ≡ get_or ws k 0 ∷ part ws (k + 1) (end - (k + 1)) = rw (i, drop-cons ws k 0 (omega arith), j) refl in
+pub adding_on : {ws : List ℕ} {r i : ℕ} → Adding ws r i → i < length ws → {q : ℕ} → q ≡ min (r + get_or ws i 0) size_stop → Adding ws q (i + 1)
+adding_on {ws} {r} {i} a l e =
+    let j : suc i ≡ i + 1 = omega arith in
+    let p : drop i ws ≡ get_or ws i 0 ∷ drop (i + 1) ws = rw (drop-cons ws i 0 (omega arith), j) refl in
     let t = ap sum_of p in let u = a.same in
-    record { within = (omega arith, omega arith); few = omega arith; same = omega arith }
+    record { few = omega arith; same = omega arith }
 
-pub adding_end : {ws : List ℕ} {from end r k : ℕ} → Adding ws from end r k → end ≤ k → r ≡ min (sum_of (part ws from (end - from))) size_stop
-adding_end {ws} {from} {end} {r} {k} a l =
-    let z : end - k ≡ 0 = omega arith in let t : sum_of (part ws k (end - k)) ≡ 0 = rw z refl in
+pub adding_end : {ws : List ℕ} {r i : ℕ} → Adding ws r i → length ws ≤ i → r ≡ min (sum_of ws) size_stop
+adding_end {ws} {r} {i} a l =
+    let t : sum_of (drop i ws) ≡ 0 = ap sum_of (drop_of_length-le ws {i = i} (omega arith)) in
     let u = a.same in let v = a.few in
     omega arith
 

@@ -37,7 +37,7 @@ pub const SIZE_STOP: usize = 268435456;
 pub fn stopped(size: usize) -> usize
     ensures { result ≡ min size size_stop }
 {
-    if SIZE_STOP < size { SIZE_STOP } else { size }
+    size.min(SIZE_STOP)
 }
 
 // The bytes of a number that counts them and m bytes more.
@@ -163,19 +163,7 @@ fn put_node(
 fn stands(node: Node, first: usize, end: usize, row: usize, size: usize) -> bool
     ensures { result ≡ true → (node.contained ≡ 0) × (size ≡ node.size) × Outside row first end }
 {
-    if node.contained != 0 {
-        return false;
-    }
-    if node.size as usize != size {
-        return false;
-    }
-    if row < first {
-        return true;
-    }
-    if end <= row {
-        return true;
-    }
-    false
+    node.contained == 0 && node.size as usize == size && (row < first || end <= row)
 }
 
 // Appends `size` bytes of the file, from `from` on.
@@ -216,7 +204,6 @@ fn put_row(
     ensures { NodeAppended file.now node (contents_from file.now row title.now items.now first (end - first)) frame out.old out.new run result }
 {
     if stands(node, first, end, row, frame.size) {
-        title_parts::know_bytes(file);
         return extend(out, file, run, node.start as usize, frame.size);
     }
     let a = room::put_part(out, run.next, file, run.from, run.size);
@@ -236,10 +223,8 @@ fn sum(words: &[usize], from: usize, end: usize) -> usize
     ensures { result ≡ min (sum_of (part words.now from (end - from))) size_stop }
 {
     let mut r: usize = 0;
-    let mut k = from;
-    while k < end {
-        r = stopped(room::on(r, words[k]));
-        k = k + 1;
+    for word in &words[from..end] {
+        r = stopped(room::on(r, *word));
     }
     r
 }
@@ -269,13 +254,11 @@ pub fn measure_tree(
     let mut sizes = [0usize; cursor::MOST_NODES];
     let mut top = cursor::MOST_NODES;
     let mut end = total;
-    let mut i = count;
-    while 0 < i {
-        i = i - 1;
+    for i in (0..count).rev() {
         let node = rows::node_at(nodes, i);
         let first = end - node.rows as usize;
         let below = top + node.contained as usize;
-        let m = stopped(title_items::items_size(items, first, end, row, title.len()));
+        let m = stopped(title_items::put_items(&mut [], 0, file, items, first, end, row, title));
         let p = title_parts::unpackers_of(file, node);
         let n = sum(&sizes, top, below);
         let f = frame_of(node, m, p.size, n);
@@ -319,8 +302,7 @@ pub fn put_tree(
         size: 0,
     };
     let mut first: usize = 0;
-    let mut i: usize = 0;
-    while i < count {
+    for i in 0..count {
         let node = rows::node_at(nodes, i);
         let end = first + node.rows as usize;
         let size = packed[i];
@@ -345,7 +327,6 @@ pub fn put_tree(
             },
         );
         first = end;
-        i = i + 1;
     }
     room::put_part(out, run.next, file, run.from, run.size)
 }

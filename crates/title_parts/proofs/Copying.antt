@@ -2,7 +2,7 @@
 -- Assumes nothing.
 use mathlib.Core.Path.{◌≡◌, refl, sym, ap, ◌∙◌, subst}
 use mathlib.Core.List.{List, [], ◌∷◌, ◌++◌, append_assoc, append-nil}
-use Prim.Native.Nat.{ℕ, zero, suc, ◌+◌, ◌-◌, ◌≤◌, ◌<◌, min}
+use Prim.Native.Nat.{ℕ, zero, suc, ◌+◌, ◌-◌, ◌≤◌, ◌<◌}
 use native.Mathlib.Omega.{arith}
 use lib.ListN.{length}
 use borrow.Author.Tests.{ne_eqb}
@@ -12,18 +12,17 @@ use Rattle.cursor.specs.Leaves.{number, block, manufacturer, guid}
 use Rattle.room.specs.Parts.{part, joined}
 use Rattle.vlq.specs.Vlq.{vlq, sized}
 use Rattle.cursor.specs.declared.Cursor.{Cursor}
-use Rattle.cursor.specs.declared.FilePlace.{FilePlace}
 use Rattle.machine.proofs.Laws.{running, and_then, run-times, run-timed}
 use Rattle.machine.proofs.Wp.{at_end}
 use Rattle.cursor.proofs.Leaves.{Any, any_free, guid-on, manufacturer-on}
 use Rattle.title_text.specs.Description.{answer, copied, identifier_text, unpacker_text, entry_text, table_text}
-use Rattle.title_text.proofs.Counted.{counts-part}
 use Rattle.room.specs.Counts.{Counts, too_many}
 use Rattle.room.proofs.Counting.{counts-none, counts-then, counts-as}
 use Rattle.vlq.proofs.Sized.{put-sized}
 use Rattle.title_parts.specs.Told.{number_text, Copies}
-use Rattle.title_parts.specs.declared.Copied.{Copied}
-use Rattle.title_parts.specs.declared.Copied.TheVariants as copying
+use Rattle.std.proofs.Common.{Result, Ok, Err}
+use Rattle.refusals.specs.Reasons.{number_of}
+use Rattle.refusals.specs.declared.Refusal.{Refusal}
 
 -- ---- bytes before those that a program answers
 
@@ -41,19 +40,19 @@ before-both a b (refused n p) = refl
 
 -- ---- what was copied
 
-pub copies_as : {o o' : List ℕ} {s : ℕ} {r : Copied} {x y : Out (List ℕ)} → x ≡ y → Copies o o' s r x → Copies o o' s r y
+pub copies_as : {o o' : List ℕ} {s : ℕ} {r : Result (ℕ × Cursor) Refusal} {x y : Out (List ℕ)} → x ≡ y → Copies o o' s r x → Copies o o' s r y
 copies_as {o} {o'} {s} {r} e p = subst (λ v. Copies o o' s r v) e p
 
-pub copies_after : {o o₁ o₂ : List ℕ} {s s₁ : ℕ} (a : List ℕ) (r : Copied) {x : Out (List ℕ)} → Counts o o₁ s a s₁ → Copies o₁ o₂ s₁ r x → Copies o o₂ s r (before a x)
-copies_after a (copying.To n c) p k = let (t, e, q) = k.is in record { is = (a ++ t, ap (before a) e, counts-then p q) }
-copies_after a (copying.Refused n c) p k = record { is = ap (before a) k.is }
+pub copies_after : {o o₁ o₂ : List ℕ} {s s₁ : ℕ} (a : List ℕ) (r : Result (ℕ × Cursor) Refusal) {x : Out (List ℕ)} → Counts o o₁ s a s₁ → Copies o₁ o₂ s₁ r x → Copies o o₂ s r (before a x)
+copies_after a (Ok (n, c)) p k = let (t, e, q) = k.is in record { is = (a ++ t, ap (before a) e, counts-then p q) }
+copies_after a (Err e) p k = record { is = ap (before a) k.is }
 
 -- a call's contract, where its answer is known
-pub copied-was : {o o' : List ℕ} {s : ℕ} {r r' : Copied} {x : Out (List ℕ)} → Copies o o' s r x → r ≡ r' → Copies o o' s r' x
+pub copied-was : {o o' : List ℕ} {s : ℕ} {r r' : Result (ℕ × Cursor) Refusal} {x : Out (List ℕ)} → Copies o o' s r x → r ≡ r' → Copies o o' s r' x
 copied-was {o} {o'} {s} {x = x} p e = subst (λ v. Copies o o' s v x) e p
 
 -- the bytes that were put
-module _ {o o' : List ℕ} {s n : ℕ} {c : Cursor} {x : Out (List ℕ)} (p : Copies o o' s (copying.To n c) x) where
+module _ {o o' : List ℕ} {s n : ℕ} {c : Cursor} {x : Out (List ℕ)} (p : Copies o o' s (Ok (n, c)) x) where
   abbrev pub copied-bytes : List ℕ
   copied-bytes = p.is.0
 
@@ -63,8 +62,23 @@ module _ {o o' : List ℕ} {s n : ℕ} {c : Cursor} {x : Out (List ℕ)} (p : Co
   pub copied-puts : Counts o o' s copied-bytes n
   copied-puts = p.is.2
 
-pub copied-no : {o o' : List ℕ} {s n : ℕ} {p : FilePlace} {x : Out (List ℕ)} → Copies o o' s (copying.Refused n p) x → x ≡ refused n p.0
-copied-no k = k.is
+-- what is put into no buffer is measured
+no_bytes : (s : List ℕ) → length s ≡ 0 → s ≡ []
+no_bytes [] e = refl
+no_bytes (b ∷ s) e = absurd (omega arith)
+
+pub copied-nowhere : {o : List ℕ} {s : ℕ} {r : Result (ℕ × Cursor) Refusal} {n : ℕ} {c : Cursor} {x : Out (List ℕ)} → Copies [] o s r x → r ≡ Ok (n, c)
+    → Copies [] [] s (Ok (n, c)) x
+copied-nowhere {o} p k = let q = copied-was p k in rw (no_bytes o (copied-puts q).long) at q
+
+pub copied-no : {o o' : List ℕ} {s : ℕ} {r : Result (ℕ × Cursor) Refusal} {e : Refusal} {x : Out (List ℕ)} → Copies o o' s r x → r ≡ Err e
+    → x ≡ refused (number_of e.0) e.1
+copied-no p k = (copied-was p k).is
+
+-- a refusal that is passed on
+pub copies-no : {o o' : List ℕ} {s : ℕ} {q : Result (ℕ × Cursor) Refusal} {e : Refusal} {x : Out (List ℕ)} → q ≡ Err e
+    → x ≡ refused (number_of e.0) e.1 → Copies o o' s q x
+copies-no k h = rw k (record { is = h })
 
 -- ---- a number
 
@@ -108,15 +122,6 @@ guid-inside f at e = at_end any_free f (guid-on {U = Any} unpack_frame (length f
 
 pub maker_inside : (f : List ℕ) (at : ℕ) {q : ℕ} → run (manufacturer unpack_frame (length f)) f at ≡ ok tt q → (at < q) × (q ≤ at + 3) × (q ≤ length f)
 maker_inside f at e = at_end any_free f (manufacturer-on {U = Any} unpack_frame (length f) at) e
-
--- counted as they are
-pub guid-counted : (f : List ℕ) (at : ℕ) {q : ℕ} → run (guid unpack_frame (length f)) f at ≡ ok tt q → {to r : ℕ} → r ≡ min (to + (q - at))
-    too_many → Counts [] [] to (part f at (q - at)) r
-guid-counted f at {q} read e = counts-part f at (q - at) (omega (arith, guid-inside f at read)) e
-
-pub maker_counted : (f : List ℕ) (at : ℕ) {q : ℕ} → run (manufacturer unpack_frame (length f)) f at ≡ ok tt q → {to r : ℕ} → r ≡ min
-    (to + (q - at)) too_many → Counts [] [] to (part f at (q - at)) r
-maker_counted f at {q} read e = counts-part f at (q - at) (omega (arith, maker_inside f at read)) e
 
 module _ (f : List ℕ) (kind at : ℕ) where
   pub guid-no : kind ≡ 3 → {n p : ℕ} → run (guid unpack_frame (length f)) f at ≡ refused n p → run (identifier_text f kind) f at ≡ refused n p
@@ -230,37 +235,41 @@ module _ (f : List ℕ) (body : List ℕ → P (List ℕ)) (behind : Behind f bo
       let e₂ : run (times (suc n) body []) f at ≡ and_then (run (body []) f at) (λ t p. run (times n body t) f p) = rw k at (run-times f (suc n) at body [] some) in
       e₁ ∙ ap (λ v. and_then v (λ t p. run (times n body t) f p)) (behind b at) ∙ times-by n (times-behind n) b (run (body []) f at) ∙ ap (before b) (sym e₂)
 
--- ---- a loop: `done` is put, and `left` are left
+-- ---- a loop: `done` is put of the first i
 
-pub record Copying (f : List ℕ) (body : List ℕ → P (List ℕ)) (o o' : List ℕ) (to count from next at left : ℕ) : Type 0 where
+pub record Copying (f : List ℕ) (body : List ℕ → P (List ℕ)) (o o' : List ℕ) (to count from next at i : ℕ) : Type 0 where
   pub done : List ℕ
   pub puts : Counts o o' to done next
-  pub same : run (times count body []) f from ≡ before done (run (times left body []) f at)
+  pub same : run (times count body []) f from ≡ before done (run (times (count - i) body []) f at)
 
-pub copying_start : (f : List ℕ) (body : List ℕ → P (List ℕ)) (o : List ℕ) (to count from : ℕ) → to ≤ too_many → Copying f body o o to count from to from count
-copying_start f body o to count from l = record { done = []; puts = counts-none o l; same = sym (before-none (run (times count body []) f from)) }
+pub copying_start : (f : List ℕ) (body : List ℕ → P (List ℕ)) (o : List ℕ) (to count from : ℕ) → to ≤ too_many → Copying f body o o to count from to from 0
+copying_start f body o to count from l =
+    let e : count ≡ count - 0 = omega arith in
+    record { done = []; puts = counts-none o l; same = ap (λ n. run (times n body []) f from) e ∙ sym (before-none (run (times (count - 0) body []) f from)) }
 
-module _ {f : List ℕ} {body : List ℕ → P (List ℕ)} (behind : Behind f body) {o o₁ : List ℕ} {to count from next at left : ℕ}
-    (g : Copying f body o o₁ to count from next at left) where
-  turn : 0 < left → run (times count body []) f from ≡ before g.done (and_then (run (body []) f at) (λ t p. run (times (left - 1) body t) f p))
-  turn some = g.same ∙ ap (before g.done) (run-times f left at body [] (λ z. omega arith))
+module _ {f : List ℕ} {body : List ℕ → P (List ℕ)} (behind : Behind f body) {o o₁ : List ℕ} {to count from next at i : ℕ}
+    (g : Copying f body o o₁ to count from next at i) where
+  turn : i < count → run (times count body []) f from ≡ before g.done (and_then (run (body []) f at) (λ t p. run (times (count - (i + 1)) body t) f p))
+  turn some =
+      let e : count - i - 1 ≡ count - (i + 1) = omega arith in
+      rw e at (g.same ∙ ap (before g.done) (run-times f (count - i) at body [] (λ z. omega arith)))
 
-  pub copying_on : 0 < left → {o₂ : List ℕ} {n : ℕ} {c : Cursor} → Copies o₁ o₂ next (copying.To n c) (run (body []) f at) → Copying f body o
-      o₂ to count from n c.at.0 (left - 1)
+  pub copying_on : i < count → {o₂ : List ℕ} {n : ℕ} {c : Cursor} → Copies o₁ o₂ next (Ok (n, c)) (run (body []) f at) → Copying f body o
+      o₂ to count from n c.at.0 (i + 1)
   copying_on some {c = c} k = let (u, e, q) = k.is in record {
     done = g.done ++ u;
     puts = counts-then g.puts q;
     same =
-        turn some ∙ ap (λ v. before g.done (and_then v (λ t p. run (times (left - 1) body t) f p))) e
-        ∙ ap (before g.done) (times-behind f body behind (left - 1) u c.at.0)
-        ∙ before-both g.done u (run (times (left - 1) body []) f c.at.0);
+        turn some ∙ ap (λ v. before g.done (and_then v (λ t p. run (times (count - (i + 1)) body t) f p))) e
+        ∙ ap (before g.done) (times-behind f body behind (count - (i + 1)) u c.at.0)
+        ∙ before-both g.done u (run (times (count - (i + 1)) body []) f c.at.0);
   }
 
-  pub copying_no : 0 < left → {n p : ℕ} → run (body []) f at ≡ refused n p → run (times count body []) f from ≡ refused n p
-  copying_no some e = turn some ∙ ap (λ v. before g.done (and_then v (λ t p. run (times (left - 1) body t) f p))) e
+  pub copying_no : i < count → {n p : ℕ} → run (body []) f at ≡ refused n p → run (times count body []) f from ≡ refused n p
+  copying_no some e = turn some ∙ ap (λ v. before g.done (and_then v (λ t p. run (times (count - (i + 1)) body t) f p))) e
 
-  pub copying_end : left ≤ 0 → (s : List ℕ) × (run (times count body []) f from ≡ ok s at) × Counts o o₁ to s next
-  copying_end none = (g.done, g.same ∙ ap (before g.done) (run-timed f left at body [] (omega arith)) ∙ ap (λ v. ok v at) (append-nil g.done), g.puts)
+  pub copying_end : count ≤ i → (s : List ℕ) × (run (times count body []) f from ≡ ok s at) × Counts o o₁ to s next
+  copying_end none = (g.done, g.same ∙ ap (before g.done) (run-timed f (count - i) at body [] (omega arith)) ∙ ap (λ v. ok v at) (append-nil g.done), g.puts)
 
 -- ---- an entry of the types table, and the table
 
@@ -320,8 +329,8 @@ entry-put a b c d p q x y = counts-then p (counts-then q (counts-then x (counts-
 
 -- ---- a block of what is read again
 
-pub block-copied : {z z' o o₁ o₂ : List ℕ} {s s₁ n m : ℕ} {c d : Cursor} (x : Out (List ℕ)) → Copies z z' 0 (copying.To n c) x → Counts o o₁
-    s (vlq n) s₁ → Copies o₁ o₂ s₁ (copying.To m d) x → Counts o o₂ s (sized (answer x)) m
+pub block-copied : {z z' o o₁ o₂ : List ℕ} {s s₁ n m : ℕ} {c d : Cursor} (x : Out (List ℕ)) → Copies z z' 0 (Ok (n, c)) x → Counts o o₁
+    s (vlq n) s₁ → Copies o₁ o₂ s₁ (Ok (m, d)) x → Counts o o₂ s (sized (answer x)) m
 block-copied x j v w =
     let (a, e, p) = j.is in let (b, h, q) = w.is in let k : b ≡ a = ok-left (sym h ∙ e) in
     let l : answer x ≡ a = ap answer e in
@@ -332,15 +341,11 @@ pub block_same : {o o₁ o₂ : List ℕ} {s s₁ s₂ n : ℕ} {t body : List �
     o₁ o₂ s₁ t s₂ → Counts o o₂ s (sized body) s₂
 block_same {body = body} k e v w = put-sized body k v (counts-as e w)
 
-pub block-measured : {o o₁ o₂ : List ℕ} {s s₁ n m : ℕ} {d : Cursor} (x : Out (List ℕ)) → Counts [] [] 0 (answer x) n → Counts o o₁ s (vlq n) s₁ → Copies o₁ o₂ s₁ (copying.To m d) x
+pub block-measured : {o o₁ o₂ : List ℕ} {s s₁ n m : ℕ} {d : Cursor} (x : Out (List ℕ)) → Counts [] [] 0 (answer x) n → Counts o o₁ s (vlq n) s₁ → Copies o₁ o₂ s₁ (Ok (m, d)) x
     → Counts o o₂ s (sized (answer x)) m
 block-measured x k v w =
     let (b, h, q) = w.is in
     put-sized (answer x) k v (counts-as (sym (ap answer h)) q)
-
-no_bytes : (s : List ℕ) → length s ≡ 0 → s ≡ []
-no_bytes [] e = refl
-no_bytes (b ∷ s) e = absurd (omega arith)
 
 pub block-empty : {o o₁ : List ℕ} {s s₁ n : ℕ} (body : List ℕ) → Counts [] [] 0 body n → n ≡ 0 → Counts o o₁ s (vlq n) s₁ → Counts o o₁ s (sized body) s₁
 block-empty {o₁ = o₁} body k z v =
@@ -357,5 +362,5 @@ pub block_none : {o o' : List ℕ} {s r n p : ℕ} (x : Out (List ℕ)) → x �
 unfolding sized
 block_none x e v = let l : answer x ≡ [] = ap answer e in rw l (counts-as (sym (append-nil (vlq 0))) v)
 
-pub block-never : {z z' : List ℕ} {n : ℕ} {c : Cursor} {m p : ℕ} {B : Type 0} (x : Out (List ℕ)) → Copies z z' 0 (copying.To n c) x → x ≡ refused m p → B
+pub block-never : {z z' : List ℕ} {n : ℕ} {c : Cursor} {m p : ℕ} {B : Type 0} (x : Out (List ℕ)) → Copies z z' 0 (Ok (n, c)) x → x ≡ refused m p → B
 block-never x j h = never (sym h ∙ j.is.1)

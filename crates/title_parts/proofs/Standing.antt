@@ -1,12 +1,11 @@
 -- Unpackers in their shortest form have no more bytes than the file has for them; and where they have no fewer, the file has that form.
 -- Assumes nothing.
-use mathlib.Core.Path.{◌≡◌, refl, sym, ap, ◌∙◌}
+use mathlib.Core.Path.{◌≡◌, sym, ap, ◌∙◌}
 use mathlib.Core.Bool.{true, false}
-use mathlib.Core.List.{List, [], ◌∷◌}
-use Prim.Native.Nat.{ℕ, zero, suc, ◌+◌, ◌-◌, ◌^◌, ◌≤◌, ◌<◌, min}
-use native.Mathlib.Decide.{dec_lt}
+use mathlib.Core.List.{List, []}
+use Prim.Native.Nat.{ℕ, ◌+◌, ◌-◌, ◌^◌, ◌≤◌, ◌<◌, min}
 use native.Mathlib.Omega.{arith}
-use lib.ListN.{length, get_or}
+use lib.ListN.{length}
 use Rattle.machine.specs.Machine.{Out, ok, refused, run, times}
 use Rattle.cursor.specs.Rows.{P, unpack_frame}
 use Rattle.cursor.specs.Leaves.{guid, manufacturer}
@@ -22,7 +21,7 @@ use Rattle.title_text.proofs.Covers.{Covers, covers-none, covers-on, covers-to, 
 use Rattle.room.specs.Counts.{too_many}
 use Rattle.room.proofs.Counting.{counts-none, counts-as}
 use Rattle.title_parts.specs.Told.{Copies, PackedAs}
-use Rattle.title_parts.specs.declared.Copied.TheVariants as copying
+use Rattle.std.proofs.Common.{Ok}
 use Rattle.title_parts.proofs.Copying.{guid-inside, maker_inside, copied-bytes, copied-answer, copied-puts}
 
 module _ (f : List ℕ) where
@@ -78,7 +77,7 @@ module _ (f : List ℕ) (row : Node) where
   unfolding shape
   packed_none e = record { size = rw e (counts-none [] (omega arith)); same = λ z. no_true z }
 
-  module _ {n : ℕ} {c : Cursor} (k : Copies [] [] 0 (copying.To n c) again) where
+  module _ {n : ℕ} {c : Cursor} (k : Copies [] [] 0 (Ok (n, c)) again) where
     text-is : (shape f row).unpackers ≡ copied-bytes k
     unfolding shape
     text-is = ap answer (copied-answer k)
@@ -91,31 +90,3 @@ module _ (f : List ℕ) (row : Node) where
         let h = unpackers-cover f row.unpacker_count row.unpackers (copied-answer k) in
         let w = covers-same h small bytes inside (omega (arith, (copied-puts k).after)) e in
         record { size = counts-as (sym text-is) (copied-puts k); same = λ _. (w.0, w.1 ∙ sym text-is) }
-
--- ---- bytes
-
--- those before i
-pub record Below (f : List ℕ) (i : ℕ) : Type 0 where
-  pub below : (k : ℕ) → k < i → get_or f k 0 < 256
-
-pub below_none : (f : List ℕ) → Below f 0
-below_none f = record { below = λ k l. absurd (omega arith) }
-
-pub below_on : {f : List ℕ} {i b : ℕ} → Below f i → (b ≡ get_or f i 0) × (b < 256) → Below f (i + 1)
-below_on {f} {i} w e = record {
-  below = λ k l. elim (dec_lt k i) [
-    | yes m ↦ w.below k m
-    | no m ↦ let z : k ≡ i = omega arith in rw z (omega (arith, e))
-  ];
-}
-
-none-past : (f : List ℕ) (k : ℕ) → length f ≤ k → get_or f k 0 ≡ 0
-none-past [] k l = refl
-none-past (b ∷ f) zero l = absurd (omega arith)
-none-past (b ∷ f) (suc k) l = none-past f k (omega arith)
-
-pub below_all : {f : List ℕ} {i : ℕ} → Below f i → length f ≤ i → Bytes f
-below_all {f} {i} w l k = elim (dec_lt k i) [
-  | yes m ↦ w.below k m
-  | no m ↦ omega (arith, none-past f k (omega arith))
-]

@@ -37,7 +37,7 @@ use Rattle.file_laws.specs.Private.{may_differ}
 use Rattle.file_laws.proofs.Demand.{private_data}
 use Rattle.title_text.specs.Description.{Content, content, Shape}
 use Rattle.title_text.specs.Text.{further, field_text, item_text, universal_text, version_text, content_text, items_text, header_of, framed, own_text, node_text, whole_text, outer}
-use Rattle.node.specs.Node.{in_tree, head, unpackers, uri_place, target, reference, rest, front}
+use Rattle.node.specs.Node.{in_tree, uri_place, target, reference, rest, front}
 use Rattle.title_text.proofs.Collecting.{Collected, collect}
 use Rattle.title_text.proofs.Sizes.{framed-length, framed-header, framed-most}
 use Rattle.title_text.proofs.Unpackers.{packs_back}

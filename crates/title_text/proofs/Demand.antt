@@ -18,7 +18,7 @@ use Rattle.cursor.proofs.Agree.{part_same}
 use Rattle.machine.proofs.Wp.{at_end}
 use Rattle.cursor.proofs.Leaves.{any_free}
 use Rattle.machine.proofs.Stable.{Kept}
-use Rattle.header.specs.Header.{Header, header}
+use Rattle.header.specs.Header.{Header}
 use Rattle.header.proofs.Ends.{header-on}
 use Rattle.metadata.specs.declared.Limits.{Limits}
 use Rattle.file_laws.specs.Private.{may_differ, DifferInPrivate}

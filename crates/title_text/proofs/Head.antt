@@ -11,7 +11,6 @@ use Rattle.machine.specs.Machine.{ok, run}
 use Rattle.cursor.specs.Rows.{node_frame}
 use Rattle.machine.proofs.Laws.{running}
 use Rattle.node.specs.Node.{header_length, head, in_tree}
-use Rattle.room.specs.Parts.{joined}
 use Rattle.vlq.specs.Vlq.{vlq}
 use Rattle.room.proofs.Lies.{Lies, stand, joined_length}
 use Rattle.vlq.proofs.Back.{number-back}

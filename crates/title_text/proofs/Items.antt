@@ -9,7 +9,7 @@ use native.Mathlib.Omega.{arith}
 use lib.Dec.{eqb}
 use lib.ListN.{length, length-append}
 use borrow.Author.Tests.{lt-ltb, le-ltb, eq-eqb, ne_eqb, lt-leb, le-leb}
-use Rattle.machine.specs.Machine.{ok, run, exec, turns, many, times}
+use Rattle.machine.specs.Machine.{ok, run, exec, turns, times}
 use Rattle.cursor.specs.Rows.{meta_frame}
 use Rattle.room.specs.Parts.{part, joined}
 use Rattle.vlq.specs.Vlq.{vlq, sized}

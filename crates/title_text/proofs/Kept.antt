@@ -24,7 +24,6 @@ use Rattle.metadata.specs.declared.Made.{Made}
 use Rattle.node.specs.Node.{in_tree, unpackers, resource, node_place, uri_place, target, reference, rest, front}
 use Rattle.node.specs.declared.Reference as reference
 use Rattle.node.specs.declared.Unpackers as unpackers
-use Rattle.node.specs.declared.Front as front
 use Rattle.node.proofs.Uses.{unpackers-use, reference-uses, front-uses}
 use Rattle.node.proofs.Ends.{head-inside}
 use Rattle.tree.specs.Tree as tree

@@ -6,7 +6,7 @@ use mathlib.Core.Bool.{Bool, true, false, ◌||◌}
 use mathlib.Core.List.{List, [], ◌∷◌, ◌++◌, append_assoc, append-nil}
 use Prim.Native.Nat.{ℕ, zero, suc, ◌+◌, ◌-◌, ◌^◌, ◌≤◌, ◌<◌}
 use native.Mathlib.Omega.{arith}
-use lib.Dec.{eqb, ltb, leb}
+use lib.Dec.{eqb}
 use lib.ListN.{length, length-append}
 use borrow.Author.Tests.{ltb-true, leb-true, eqb-true, eqb-false, ne_eqb}
 use Rattle.machine.specs.Machine.{exec, times, ◌>>=◌}
@@ -27,9 +27,7 @@ use Rattle.node.specs.Node as node
 use Rattle.node.specs.Node.{in_tree, header_length, head, resource, node_place, uri_place, target, reference, Rest, rest, front}
 use Rattle.node.specs.declared.Bounds.{Bounds}
 use Rattle.node.specs.declared.Head as head
-use Rattle.node.specs.declared.Unpackers as unpackers
 use Rattle.node.specs.declared.Reference as reference
-use Rattle.node.specs.declared.Front as front
 use Rattle.node.proofs.Quiet.{head-quiet, unpackers-quiet, reference-quiet, rest-quiet}
 use Rattle.node.proofs.Ends.{head-inside}
 use Rattle.tree.specs.Tree as tree

@@ -5,7 +5,6 @@ use mathlib.Core.List.{List, [], ◌∷◌}
 use Prim.Native.Nat.{ℕ, ◌+◌, ◌-◌, ◌^◌, ◌≤◌, ◌<◌}
 use native.Mathlib.Omega.{arith}
 use lib.ListN.{length}
-use Rattle.room.specs.Parts.{joined}
 use Rattle.vlq.specs.Vlq.{least, vlq}
 use Rattle.vlq.proofs.Least.{least-le, least-up, least-short, least-within, vlq-length}
 use Rattle.room.proofs.Lies.{joined_length}

@@ -14,7 +14,7 @@ use Rattle.cursor.specs.declared.Node.{Node}
 use Rattle.cursor.specs.declared.Item.{Item}
 use Rattle.room.proofs.Lies.{Lies, lies_at, lies_as}
 use Rattle.machine.proofs.Agree.{AgreeUpTo, agree_on}
-use Rattle.header.specs.Header.{Header, header}
+use Rattle.header.specs.Header.{Header}
 use Rattle.metadata.specs.declared.Limits.{Limits}
 use Rattle.metadata.specs.declared.Made.{Made}
 use Rattle.file_laws.specs.Private.{DifferInPrivate}

@@ -5,11 +5,13 @@ use mathlib.Core.Bool.{Bool, true, false}
 use mathlib.Core.List.{List, [], ◌∷◌, ◌++◌, append_assoc}
 use Prim.Native.Nat.{ℕ, ◌*◌, ◌-◌, ◌≤◌, ◌<◌}
 use native.Mathlib.Omega.{arith}
-use lib.Dec.{eqb}
 use lib.ListN.{length, length-append, take, replicate}
 use lib.Seq.{take-append_seam}
 use borrow.Author.Tests.{eq-eqb, ne_eqb, le-leb, lt-leb}
-use Rattle.cursor.specs.declared.FilePlace.{FilePlace}
+use Rattle.std.proofs.Common as std
+use Rattle.std.proofs.Common.{Ok, Err}
+use Rattle.refusals.specs.Reasons.{number_of}
+use Rattle.refusals.specs.declared.Refusal.{Refusal}
 use Rattle.cursor.specs.declared.Item.{Item}
 use Rattle.metadata.specs.Tables.{full_nodes, full_items, limits}
 use Rattle.rows.specs.Rows.{item_width, nodes_in, item_from, items_in, rows_from}
@@ -18,12 +20,8 @@ use Rattle.io.proofs.Counting.{prefix_len_of_le}
 use Rattle.room.specs.Room.{Result, good, bad, padded, fitting, counted, kept}
 use Rattle.room.specs.Told.{told}
 use Rattle.room.specs.Decimal.{decimal}
-use Rattle.room.specs.declared.Written.{Written}
-use Rattle.room.specs.declared.Written.TheVariants as written
 use Rattle.file.specs.Reading.{read_of, read_file}
 use Rattle.file.specs.Asking.{ask}
-use Rattle.file.specs.declared.Read.{Read}
-use Rattle.file.specs.declared.Read.TheVariants as read
 use Rattle.file.specs.declared.Summary.{Summary}
 use Rattle.file.proofs.Rows.{Standing}
 use Rattle.text.specs.Text.{tabbed}
@@ -33,7 +31,7 @@ use Rattle.utf16.specs.Unicode.{to_utf16}
 use Rattle.lines.specs.Answer.{plainly, refused_by, fitted, printed, reads}
 use Rattle.titles.specs.Titles.{title_line, title_lines, titles, titles_answer, title_format, typed, typed_answer, corrected_answer, retitled_answer}
 use Rattle.lines.proofs.Ending.{printed-good, printed-bad}
-use Rattle.lines.proofs.Reading.{Lined, full, unread, known, refused, accepted, count-is, row_is}
+use Rattle.lines.proofs.Reading.{Lined, full, known, refused, accepted, count-is, row_is}
 
 -- ---- a line
 
@@ -58,10 +56,6 @@ titles-start f ws count = let e : count - 0 ≡ count = omega arith in rw e
 
 module _ (f : List ℕ) {n i : ℕ} (en : full_nodes ≡ n) (ei : full_items ≡ i) where
   module _ (room : ℕ) where
-    pub titles-bad : {r : Read} → r ≡ read_of (read_file (limits n i) f) → {m : ℕ} {p : FilePlace} → r ≡ read.Refused m p → refused_by room [] m p.0 ≡ titles_answer room f
-    unfolding titles_answer
-    titles-bad e k = printed-bad plainly _ _ (unread f en ei e k (titles f))
-
     module _ {s : Summary} {t u : List ℕ} (st : Standing f (read_file (limits n i) f) s t u) {b : Bool} (e : b ≡ elsewhere (nodes_in s.nodes t)) where
       refers : {c : Bool} → b ≡ c → elsewhere st.ns ≡ c
       refers k = ap elsewhere (sym st.nodes-are) ∙ sym e ∙ k
@@ -81,7 +75,7 @@ module _ (f : List ℕ) {n i : ℕ} (en : full_nodes ≡ n) (ei : full_items ≡
   -- ---- an item row
 
   module _ (row : ℕ) where
-    pub format-refused : {r : Read} → r ≡ read_of (read_file (limits n i) f) → {m : ℕ} {p : FilePlace} → r ≡ read.Refused m p → 1 ≡ title_format row (reads f)
+    pub format-refused : {r : std.Result Summary Refusal} → told r ≡ read_of (read_file (limits n i) f) → {k : Refusal} → r ≡ Err k → 1 ≡ title_format row (reads f)
     unfolding title_format
     format-refused e k = rw (refused f en ei e k)
 
@@ -124,15 +118,15 @@ module _ (room row : ℕ) (title f : List ℕ) {format : ℕ} (e : format ≡ ti
     unfolding retitled_answer typed
     units-are x = rw (← e, eq-eqb format 2 k, z, x)
 
-    pub units-bad : {w : Written} → told w ≡ counted (fitting size (to_utf16 title)) → {m p : ℕ} → w ≡ written.Refused m p → refused_by room [] m p ≡ retitled_answer room row title f
+    pub units-bad : {w : std.Result ℕ Refusal} → told w ≡ counted (fitting size (to_utf16 title)) → {r : Refusal} → w ≡ Err r → refused_by room [] (number_of r.0) r.1 ≡ retitled_answer room row title f
     unfolding typed_answer
-    units-bad h {m} {p} g = units-are (bad-is m p (fitting size (to_utf16 title)) (sym (ap told g) ∙ h))
+    units-bad h {r} g = units-are (bad-is (number_of r.0) r.1 (fitting size (to_utf16 title)) (sym (ap told g) ∙ h))
 
-    pub units-good : {w : Written} → told w ≡ counted (fitting size (to_utf16 title)) → {m : ℕ} → w ≡ written.Bytes m → (buf : List ℕ) → buf ≡
+    pub units-good : {w : std.Result ℕ Refusal} → told w ≡ counted (fitting size (to_utf16 title)) → {m : ℕ} → w ≡ Ok m → (buf : List ℕ) → buf ≡
         kept size (fitting size (to_utf16 title)) → corrected_answer room row (take m buf) f ≡ retitled_answer room row title f
     unfolding typed_answer
     units-good h {m} g buf v = units-are (good-is size m buf (fitting size (to_utf16 title)) (sym (ap told g) ∙ h) v).1
 
-pub units-counted : (size : ℕ) (title : List ℕ) {w : Written} → told w ≡ counted (fitting size (to_utf16 title)) → {m : ℕ} → w ≡
-    written.Bytes m → (buf : List ℕ) → buf ≡ kept size (fitting size (to_utf16 title)) → IsPrefixLen m buf
+pub units-counted : (size : ℕ) (title : List ℕ) {w : std.Result ℕ Refusal} → told w ≡ counted (fitting size (to_utf16 title)) → {m : ℕ} → w ≡
+    Ok m → (buf : List ℕ) → buf ≡ kept size (fitting size (to_utf16 title)) → IsPrefixLen m buf
 units-counted size title h {m} g buf v = (good-is size m buf (fitting size (to_utf16 title)) (sym (ap told g) ∙ h) v).0

@@ -7,9 +7,8 @@ ghost use Rattle.room.specs.Counts.{Counts};
 ghost use Rattle.lines.specs.Answer.{reads, Gives};
 ghost use Rattle.titles.specs.Titles.{title_line, title_lines, titles_answer, title_format, corrected_answer, retitled_answer};
 
-use file::Read;
 use lines::{Made, conclude, refuse, settle};
-use room::Written;
+use refusals::{Reason, Refusal};
 
 // Puts the line of an item row, if it is visible and universal: its number, and its line on the sheet.
 fn put_title_line(out: &mut [u8], to: usize, file: &[u8], items: &[u64], row: usize) -> usize
@@ -30,10 +29,8 @@ fn put_title_lines(out: &mut [u8], file: &[u8], items: &[u64], count: usize) -> 
     ensures { Counts out.old out.new 0 (title_lines file.now 0 (items_in count items.now)) result }
 {
     let mut next: usize = 0;
-    let mut i = 0;
-    while i < count {
+    for i in 0..count {
         next = put_title_line(out, next, file, items, i);
-        i = i + 1;
     }
     next
 }
@@ -44,10 +41,10 @@ pub fn make_titles(file: &[u8], text: &mut [u8]) -> Made
     let mut nodes = program::node_table();
     let mut items = program::item_table();
     match file::read_file(file, &mut nodes, &mut items) {
-        Read::Refused(n, p) => refuse(text, b"", n, p.0),
-        Read::Is(s) => {
+        Err(e) => refuse(text, b"", e),
+        Ok(s) => {
             if title::refers_elsewhere(&nodes, s.nodes) {
-                return refuse(text, b"", cursor::REFERS_ELSEWHERE, 0);
+                return refuse(text, b"", Refusal(Reason::RefersElsewhere, 0));
             }
             let end = put_title_lines(text, file, &items, s.items);
             conclude(text, b"", end, 0)
@@ -62,8 +59,8 @@ pub fn title_format(file: &[u8], row: usize) -> u64
     let mut nodes = program::node_table();
     let mut items = program::item_table();
     match file::read_file(file, &mut nodes, &mut items) {
-        Read::Refused(n, p) => 1,
-        Read::Is(s) => {
+        Err(_) => 1,
+        Ok(s) => {
             if s.items <= row {
                 return 1;
             }
@@ -94,7 +91,7 @@ pub fn make_retitled(file: &[u8], row: usize, title: &[u8], text: &mut [u8]) -> 
     }
     let mut units = io::large_buffer();
     match utf16::to_utf16(title, &mut units) {
-        Written::Refused(n, p) => refuse(text, b"", n, p),
-        Written::Bytes(n) => make_corrected(file, row, &units[..n], text),
+        Err(e) => refuse(text, b"", e),
+        Ok(n) => make_corrected(file, row, &units[..n], text),
     }
 }

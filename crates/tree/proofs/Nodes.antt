@@ -1,5 +1,6 @@
 -- The ways through a node, and through nodes one after the other.
 -- Assumes nothing.
+use Rattle.std.proofs.Common.{Result, Ok, Err}
 use mathlib.Core.Path.{◌≡◌, refl, sym, ap, ◌∙◌}
 use mathlib.Core.List.{List}
 use Prim.Native.Nat.{ℕ, zero, suc, ◌+◌, ◌-◌, ◌*◌, ◌≤◌, ◌<◌}
@@ -11,7 +12,6 @@ use Rattle.machine.specs.Machine.{Out, ret, ok, refused, exec, times}
 use Rattle.cursor.specs.Rows.{P, Part, node_row, inline_size}
 use Rattle.cursor.specs.declared.Node.{Node}
 use Rattle.cursor.specs.declared.Cursor.{Cursor}
-use Rattle.cursor.specs.declared.FilePlace.{FilePlace}
 use Rattle.machine.proofs.Laws.{executing, and_then, ran, exec-times, exec-timed}
 use Rattle.machine.proofs.Wp.{at_end}
 use Rattle.rows.specs.Rows.{node_width, node_words}
@@ -20,8 +20,7 @@ use Rattle.metadata.specs.Metadata.{Context}
 use Rattle.metadata.specs.Told.{Gives}
 use Rattle.metadata.specs.declared.Limits.{Limits}
 use Rattle.metadata.specs.declared.Made.{Made}
-use Rattle.metadata.specs.declared.Walked.{Walked}
-use Rattle.metadata.specs.declared.Walked.TheVariants.{Done, Refused}
+use Rattle.refusals.specs.declared.Refusal.{Refusal}
 use Rattle.metadata.proofs.Gives.{done, stopped, fitting, no, yes, along}
 use Rattle.metadata.proofs.Ends.{Nothing, inside-free}
 use Rattle.node.specs.Node.{in_tree, front}
@@ -93,7 +92,7 @@ module _ (x : Context) (parent : ℕ) (z : Bounds) (m : Made) (s : List ℕ) (at
     -- the node behind its row
     node-rest : exec put (node levels x parent z m) s at (state t u m)
         ≡ exec put (folder stop (times w.row.contained (node (levels - 1) x m.nodes (in_tree 0 stop)) (plus_node w.made))) s q (state t' u' (plus_node w.made))
-    node-rest = rw (is, past) (node_in put levels (state t u m) some l e ∙ simp (executing, row_is))
+    node-rest = rw (is, past) (node_in put levels (state t u m) some l e ∙ simp row_is)
 
     pub node-children : {n v : ℕ} → exec put (times w.row.contained (node (levels - 1) x m.nodes (in_tree 0 stop)) (plus_node w.made)) s
         q (state t' u' (plus_node w.made)) ≡ refused n v
@@ -104,7 +103,7 @@ module _ (x : Context) (parent : ℕ) (z : Bounds) (m : Made) (s : List ℕ) (at
     pub node-contained : {m' : Made} {t'' u'' : List ℕ} {v : ℕ}
         → exec put (times w.row.contained (node (levels - 1) x m.nodes (in_tree 0 stop)) (plus_node w.made)) s q
         (state t' u' (plus_node w.made)) ≡ ok (m', state t'' u'' m') v
-        → {lim : Limits} {r : Walked} → Gives lim r t'' u'' (exec put (folder stop (ret m')) s v (state t'' u'' m')) → Gives lim r t'' u''
+        → {lim : Limits} {r : Result (Made × Cursor) Refusal} → Gives lim r t'' u'' (exec put (folder stop (ret m')) s v (state t'' u'' m')) → Gives lim r t'' u''
         (exec put (node levels x parent z m) s at (state t u m))
     unfolding folder
     node-contained {m'} {t''} {u''} {v} h g =
@@ -112,7 +111,7 @@ module _ (x : Context) (parent : ℕ) (z : Bounds) (m : Made) (s : List ℕ) (at
         rw y g
 
     -- a file node has no children
-    pub node-file : w.row.contained ≡ 0 → {lim : Limits} {r : Walked} → Gives lim r t' u'
+    pub node-file : w.row.contained ≡ 0 → {lim : Limits} {r : Result (Made × Cursor) Refusal} → Gives lim r t' u'
         (exec put (folder stop (ret (plus_node w.made))) s q (state t' u' (plus_node w.made)))
         → Gives lim r t' u' (exec put (node levels x parent z m) s at (state t u m))
     node-file none g = node-contained (exec-timed put s w.row.contained q _ (plus_node w.made) (state t' u' (plus_node w.made)) none) g
@@ -120,43 +119,47 @@ module _ (x : Context) (parent : ℕ) (z : Bounds) (m : Made) (s : List ℕ) (at
 -- ---- nodes one after the other
 
 module _ (x : Context) (s t₀ u₀ : List ℕ) (levels parent : ℕ) (z : Bounds) (at left : ℕ) (made : Made) where
-  -- at i, with `rest` nodes to come, the rows m made and the tables t and u: what is left comes to what the whole comes to
-  pub record Going (t u : List ℕ) (i rest : ℕ) (m : Made) : Type 0 where
+  -- at i, behind k nodes, with the rows m made and the tables t and u: what is left comes to what the whole comes to
+  pub record Going (t u : List ℕ) (i k : ℕ) (m : Made) : Type 0 where
     pub nodes-long : length t ≡ length t₀
     pub items-long : length u ≡ length u₀
     pub nodes-fit : m.nodes ≤ x.limits.nodes
     pub items-fit : m.items ≤ x.limits.items
     pub onward : at ≤ i
-    pub same : exec put (times left (node levels x parent z) made) s at (state t₀ u₀ made) ≡ exec put (times rest (node levels x parent z) m) s i (state t u m)
+    pub same : exec put (times left (node levels x parent z) made) s at (state t₀ u₀ made) ≡ exec put (times (left - k) (node levels x parent z) m) s i (state t u m)
 
-  pub children-begun : made.nodes ≤ x.limits.nodes → made.items ≤ x.limits.items → Going t₀ u₀ at left made
-  children-begun h k = record { nodes-long = refl; items-long = refl; nodes-fit = h; items-fit = k; onward = omega arith; same = refl }
+  pub children-begun : made.nodes ≤ x.limits.nodes → made.items ≤ x.limits.items → Going t₀ u₀ at 0 made
+  children-begun h k =
+      let e : left - 0 ≡ left = omega arith in
+      record { nodes-long = refl; items-long = refl; nodes-fit = h; items-fit = k; onward = omega arith; same = rw e refl }
 
-  pub children-done : {t u : List ℕ} {c : Cursor} {rest : ℕ} {m : Made} → Going t u c.at.0 rest m → rest ≤ 0
-      → Gives x.limits (Done m c) t u (exec put (times left (node levels x parent z) made) s at (state t₀ u₀ made))
-  children-done {t} {u} {c} {rest} {m} g z = yes (sym (g.same ∙ exec-timed put s rest c.at.0 _ m (state t u m) (omega arith))) (g.nodes-fit, g.items-fit)
+  pub children-done : {t u : List ℕ} {c : Cursor} {k : ℕ} {m : Made} → Going t u c.at.0 k m → left ≤ k
+      → Gives x.limits (Ok (m, c)) t u (exec put (times left (node levels x parent z) made) s at (state t₀ u₀ made))
+  children-done {t} {u} {c} {k} {m} g z = yes (sym (g.same ∙ exec-timed put s (left - k) c.at.0 _ m (state t u m) (omega arith))) (g.nodes-fit, g.items-fit)
 
-  module _ {t u : List ℕ} {i rest : ℕ} {m : Made} (g : Going t u i rest m) (some : 0 < rest) {t' u' : List ℕ} {r : Walked}
+  module _ {t u : List ℕ} {i k : ℕ} {m : Made} (g : Going t u i k m) (some : k < left) {t' u' : List ℕ} {r : Result (Made × Cursor) Refusal}
       (d : Gives x.limits r t' u' (exec put (node levels x parent z m) s i (state t u m))) where
     turn : exec put (times left (node levels x parent z) made) s at (state t₀ u₀ made)
-        ≡ and_then (exec put (node levels x parent z m) s i (state t u m)) (λ y p. exec put (times (rest - 1) (node levels x parent z) y.0) s p y.1)
-    turn = g.same ∙ exec-times put s rest i _ m (state t u m) (λ z. omega arith)
+        ≡ and_then (exec put (node levels x parent z m) s i (state t u m)) (λ y p. exec put (times (left - (k + 1)) (node levels x parent z) y.0) s p y.1)
+    turn =
+        let e : left - k - 1 ≡ left - (k + 1) = omega arith in
+        rw (← e) (g.same ∙ exec-times put s (left - k) i _ m (state t u m) (λ z. omega arith))
 
-    pub children-no : {n : ℕ} {p : FilePlace} → r ≡ Refused n p → Gives x.limits (Refused n p) t' u'
+    pub children-no : {e : Refusal} → r ≡ Err e → Gives x.limits (Err e) t' u'
         (exec put (times left (node levels x parent z) made) s at (state t₀ u₀ made))
     children-no h = no (sym (turn ∙ rw (stopped d h) refl))
 
     -- a node moves on, and ends where its holder does or before
-    pub children-further : z.end.0 ≤ x.size → {n : Made} {c : Cursor} → r ≡ Done n c → (i < c.at.0) × (c.at.0 ≤ z.end.0)
+    pub children-further : z.end.0 ≤ x.size → {n : Made} {c : Cursor} → r ≡ Ok (n, c) → (i < c.at.0) × (c.at.0 ≤ z.end.0)
     children-further o h = let w = at_end (inside-free z.end.0 x.size) s
         (node-on Nothing z.end.0 levels x parent z m i (omega arith) o) (ran put _ s i (state t u m) (done d h)) in (w.0, w.1)
 
-    pub children-on : z.end.0 ≤ x.size → {n : Made} {c : Cursor} → r ≡ Done n c → length t' ≡ length t → length u' ≡ length u → Going t' u' c.at.0 (rest - 1) n
-    children-on o h j k =
+    pub children-on : z.end.0 ≤ x.size → {n : Made} {c : Cursor} → r ≡ Ok (n, c) → length t' ≡ length t → length u' ≡ length u → Going t' u' c.at.0 (k + 1) n
+    children-on o h j l =
         let b = fitting d h in let w = children-further o h in
         record {
           nodes-long = j ∙ g.nodes-long;
-          items-long = k ∙ g.items-long;
+          items-long = l ∙ g.items-long;
           nodes-fit = b.0;
           items-fit = b.1;
           onward = omega
@@ -170,14 +173,14 @@ once : (f : Made × State → ℕ → Out (Made × State)) → ((y : Made × Sta
 once f h (ok y p) = h y p
 once f h (refused n p) = refl
 
-pub one-node : {lim : Limits} {r : Walked} {t u : List ℕ} (body : Made → P Made) (m : Made) (s : List ℕ) (at : ℕ) (σ : State) → Gives lim r
+pub one-node : {lim : Limits} {r : Result (Made × Cursor) Refusal} {t u : List ℕ} (body : Made → P Made) (m : Made) (s : List ℕ) (at : ℕ) (σ : State) → Gives lim r
     t u (exec put (times 1 body m) s at σ) → Gives lim r t u (exec put (body m) s at σ)
 one-node body m s at σ g =
     let some : (◌≡◌ {A = ℕ} 1 0) → ⊥ = λ z. omega arith in
     along (sym (exec-times put s 1 at body m σ some ∙ once _ (λ y p. exec-timed put s (1 - 1) p body y.0 y.1 (omega arith)) (exec put (body m) s at σ))) g
 
 -- the root
-pub root_is : {lim : Limits} {r : Walked} {t u : List ℕ} (x : Context) (end : ℕ) (s : List ℕ) (at : ℕ) (σ : State)
+pub root_is : {lim : Limits} {r : Result (Made × Cursor) Refusal} {t u : List ℕ} (x : Context) (end : ℕ) (s : List ℕ) (at : ℕ) (σ : State)
     → Gives lim r t u (exec put (times 1 (node 16 x 0 (in_tree end end)) (record { nodes = 0; items = 0 })) s at σ) → Gives lim r t u (exec put (tree x end) s at σ)
 unfolding tree
 root_is x end s at σ g = one-node (node 16 x 0 (in_tree end end)) _ s at σ g

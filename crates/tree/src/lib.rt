@@ -11,8 +11,9 @@ ghost use Rattle.tree.specs.Tree.{most_depth, folder, node};
 ghost use Rattle.tree.specs.Told.{Reads};
 
 use cursor::{Cursor, FilePlace, Node, NodePlace};
-use metadata::{Limits, Made, Scope, Walked};
-use node::{Bounds, FrontResult};
+use metadata::{Limits, Made, Scope};
+use node::Bounds;
+use refusals::{Reason, Refusal};
 
 // The cursor behind a node's row, which passes the inline data of a file node.
 fn past_inline(c: Cursor, row: Node) -> Cursor
@@ -31,15 +32,15 @@ fn past_inline(c: Cursor, row: Node) -> Cursor
 }
 
 // The end of a node whose children were read up to c: nothing remains before `end`.
-fn end_node(c: Cursor, end: FilePlace, lim: Limits, made: Made) -> Walked
+fn end_node(c: Cursor, end: FilePlace, lim: Limits, made: Made) -> Result<(Made, Cursor), Refusal>
     requires { (made.nodes ≤ lim.nodes) × (made.items ≤ lim.items) }
     ensures { (s t u : List ℕ) → Gives lim result t u (exec put (folder end.0 (ret made)) s c.at.0 (state t u made)) }
 {
     let place = c.at;
     if place.0 < end.0 {
-        return Walked::Refused(cursor::BYTES_LEFT, place);
+        return Err(Refusal(Reason::BytesLeft, place.0));
     }
-    Walked::Done(made, c)
+    Ok((made, c))
 }
 
 // The node at c, with the bounds s, and all that it holds.
@@ -55,20 +56,20 @@ fn read_node(
     parent: usize,
     s: Bounds,
     made: Made,
-) -> Walked
+) -> Result<(Made, Cursor), Refusal>
     requires { Room scope file.now types.now items.old s.end.0 made × (scope.limits.nodes * node_width ≤ length nodes.old) × (levels ≤ most_depth + 1) }
     ensures { Reads scope (λ x. node levels x parent s made) file.now types.now c.at.0 made nodes.old items.old nodes.new items.new result }
 {
     let start = c.at;
     if levels == 0 {
-        return Walked::Refused(cursor::TOO_DEEP, start);
+        return Err(Refusal(Reason::TooDeep, start.0));
     }
     let lim = scope.limits;
     let index = made.nodes;
     if lim.nodes <= index {
-        return Walked::Refused(cursor::NO_ROW_LEFT, start);
+        return Err(Refusal(Reason::NoRowLeft, start.0));
     }
-    match node::read_front(
+    let (w, d) = node::read_front(
         c,
         file,
         types,
@@ -78,47 +79,41 @@ fn read_node(
         cursor::MOST_DEPTH + 1 - levels,
         s,
         made,
-    ) {
-        FrontResult::Refused(n, p) => Walked::Refused(n, p),
-        FrontResult::Is(w, d) => {
-            let row = w.row;
-            let m = w.made;
-            let counts = Made {
-                nodes: m.nodes + 1,
-                items: m.items,
-            };
-            rows::put_node(nodes, index, row);
-            let stop = start.of(NodePlace(row.size as usize));
-            let next = past_inline(d, row);
-            // A file node has no children. To ask here is faster than a call that reads none.
-            if row.contained == 0 {
-                return end_node(next, stop, lim, counts);
-            }
-            let inside = Bounds {
-                least: FilePlace(0),
-                end: stop,
-                taken: stop,
-                offset: FilePlace(0),
-                detached: 0,
-            };
-            match read_children(
-                next,
-                file,
-                types,
-                nodes,
-                items,
-                scope,
-                levels - 1,
-                index,
-                inside,
-                row.contained,
-                counts,
-            ) {
-                Walked::Refused(n, p) => Walked::Refused(n, p),
-                Walked::Done(m, e) => end_node(e, stop, lim, m),
-            }
-        }
+    )?;
+    let row = w.row;
+    let m = w.made;
+    let counts = Made {
+        nodes: m.nodes + 1,
+        items: m.items,
+    };
+    rows::put_node(nodes, index, row);
+    let stop = start.of(NodePlace(row.size as usize));
+    let next = past_inline(d, row);
+    // A file node has no children. To ask here is faster than a call that reads none.
+    if row.contained == 0 {
+        return end_node(next, stop, lim, counts);
     }
+    let inside = Bounds {
+        least: FilePlace(0),
+        end: stop,
+        taken: stop,
+        offset: FilePlace(0),
+        detached: 0,
+    };
+    let (all, e) = read_children(
+        next,
+        file,
+        types,
+        nodes,
+        items,
+        scope,
+        levels - 1,
+        index,
+        inside,
+        row.contained,
+        counts,
+    )?;
+    end_node(e, stop, lim, all)
 }
 
 // `left` nodes, one after the other, each with the bounds s: the children of a folder. The root and a detached node are read here too, each as one node: so
@@ -136,22 +131,14 @@ pub fn read_children(
     s: Bounds,
     left: u64,
     made: Made,
-) -> Walked
+) -> Result<(Made, Cursor), Refusal>
     requires { Room scope file.now types.now items.old s.end.0 made × (scope.limits.nodes * node_width ≤ length nodes.old) × (levels ≤ most_depth + 1) }
     ensures { Reads scope (λ x. times left (node levels x parent s) made) file.now types.now c.at.0 made nodes.old items.old nodes.new items.new result }
 {
     let mut next = c;
     let mut m = made;
-    let mut rest = left;
-    while 0 < rest {
-        match read_node(next, file, types, nodes, items, scope, levels, parent, s, m) {
-            Walked::Refused(n, p) => return Walked::Refused(n, p),
-            Walked::Done(n, d) => {
-                m = n;
-                next = d;
-            }
-        }
-        rest = rest - 1;
+    for _ in 0..left {
+        (m, next) = read_node(next, file, types, nodes, items, scope, levels, parent, s, m)?;
     }
-    Walked::Done(m, next)
+    Ok((m, next))
 }

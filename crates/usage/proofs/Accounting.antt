@@ -13,14 +13,14 @@ use Rattle.text.specs.Text.{number}
 use Rattle.account.specs.Account.{kinds_of}
 use Rattle.account.specs.ByRows.{plus}
 use Rattle.account.specs.Totals.{most_files, zeros, refused_one, allowed, totals_left}
-use Rattle.account.specs.Told.{told, totals_in}
 use Rattle.account.specs.declared.Kinds.{Kinds}
 use Rattle.account.specs.declared.Totals.{Totals}
-use Rattle.account.specs.declared.Accounted.{Accounted}
 use Rattle.lines.specs.Answer.{ended, reads}
 use Rattle.usage.specs.Bytes.{kind_line, header_name, nodes_name, metadata_name, visible_name, hidden_name, unpackers_name, references_name, inline_name, rest_name, total_name, total, kind_lines, bytes_line, kinds_in, plus_file, with_file, files_name, refused_name, sum_lines, sums_told}
-use Rattle.usage.specs.declared.sums.Sums.{Sums}
-use Rattle.usage.specs.declared.sums.Sums.TheVariants as sums
+use Rattle.std.proofs.Common as std
+use Rattle.std.proofs.Common.{Ok, Err}
+use Rattle.refusals.specs.Reasons.{number_of}
+use Rattle.refusals.specs.declared.Refusal.{Refusal}
 
 -- ---- lines, as the bytes that are put one after the other
 
@@ -68,21 +68,20 @@ module _ (f : List ℕ) {n i : ℕ} (en : full_nodes ≡ n) (ei : full_items ≡
   unfolding kinds_in reads
   full-kinds = rw (← en, ← ei)
 
-  module _ (t : Totals) {r x : Accounted} (k : r ≡ x) where
-    pub kinds-told : t ≡ zeros → told r ≡ allowed t (ask (read_file (limits n i) f) (kinds_of (limits n i) f)) → kinds_in f ≡ told x
-    kinds-told z e = sym full-kinds ∙ sym (none_yet z (ask (read_file (limits n i) f) (kinds_of (limits n i) f))) ∙ sym e ∙ ap told k
+  pub kinds-told : {t : Totals} {o : Result Kinds} → t ≡ zeros → o ≡ allowed t (ask (read_file (limits n i) f) (kinds_of (limits n i) f)) → kinds_in f ≡ o
+  kinds-told z e = sym full-kinds ∙ sym (none_yet z (ask (read_file (limits n i) f) (kinds_of (limits n i) f))) ∙ sym e
 
-    pub totals_told : totals_in r ≡ totals_left t (ask (read_file (limits n i) f) (kinds_of (limits n i) f)) → totals_in x ≡ totals_left t (kinds_in f)
-    totals_told e = sym (ap totals_in k) ∙ e ∙ ap (totals_left t) full-kinds
+  pub totals_told : (t : Totals) {u : Totals} → u ≡ totals_left t (ask (read_file (limits n i) f) (kinds_of (limits n i) f)) → u ≡ totals_left t (kinds_in f)
+  totals_told t e = e ∙ ap (totals_left t) full-kinds
 
 -- ---- one more file
 
-module _ (f : List ℕ) {s : Sums} where
-  pub with_none : {n p : ℕ} → s ≡ sums.Refused n p → bad n p ≡ with_file (sums_told s) f
+module _ (f : List ℕ) {s : std.Result Totals Refusal} where
+  pub with_none : {r : Refusal} → s ≡ Err r → bad (number_of r.0) r.1 ≡ with_file (sums_told s) f
   unfolding with_file
   with_none e = rw e
 
-  module _ {t : Totals} (e : s ≡ sums.Of t) where
+  module _ {t : Totals} (e : s ≡ Ok t) where
     pub with_over : most_files ≤ t.files → bad 32 0 ≡ with_file (sums_told s) f
     unfolding with_file
     with_over l = rw (e, le-leb most_files t.files l)

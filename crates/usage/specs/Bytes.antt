@@ -1,9 +1,12 @@
 -- Where the bytes of a file go: a line a kind, or one line a file; and sums over files.
 -- Assumes nothing.
 use Rattle.std.specs.Prelude.{cond, List, [], ◌∷◌, ◌++◌, ℕ, leb, ltb, length}
+use Rattle.std.specs.Prelude as std
+use Rattle.refusals.specs.declared.Refusal.{Refusal}
 use Rattle.cursor.specs.Refusals.{too_many_files}
 use Rattle.metadata.specs.Tables.{full_nodes, full_items, limits}
 use Rattle.room.specs.Room.{Result, good, bad}
+use Rattle.room.specs.Told.{told}
 use Rattle.file.specs.Asking.{ask}
 use Rattle.text.specs.Text.{number}
 use Rattle.account.specs.Account.{kinds_of}
@@ -12,8 +15,6 @@ use Rattle.account.specs.Totals.{most_files, zeros, refused_one, one_more}
 use Rattle.account.specs.declared.Kinds.{Kinds}
 use Rattle.account.specs.declared.Totals.{Totals}
 use Rattle.lines.specs.Answer.{Answer, plainly, ended, printed, reads}
-use Rattle.usage.specs.declared.sums.Sums.{Sums}
-use Rattle.usage.specs.declared.sums.Sums.TheVariants as sums
 
 -- ---- the bytes of a kind: its name, and how many
 
@@ -148,6 +149,5 @@ unfoldable pub bytes_added : List ℕ → ℕ
 bytes_added f = cond (ltb 65536 (length f)) 0 (bytes_if (length f) (kinds_in f))
 
 -- what the code's sums say
-abbrev pub sums_told : Sums → Result Totals
-sums_told (sums.Of t) = good t
-sums_told (sums.Refused n p) = bad n p
+abbrev pub sums_told : std.Result Totals Refusal → Result Totals
+sums_told = told

@@ -5,7 +5,7 @@ ghost use Rattle.account.specs.Totals.{zeros};
 ghost use Rattle.lines.specs.Answer.{Gives};
 ghost use Rattle.usage.specs.Bytes.{kind_line, total, kind_lines, bytes_line, bytes_answer, bytes_line_answer};
 
-use account::{Accounted, Kinds, Totals};
+use account::{Kinds, Totals};
 use lines::{Made, conclude, put_end, refuse};
 
 // Puts the line of a kind.
@@ -92,9 +92,9 @@ pub fn make_bytes(file: &[u8], tail: &[u8], text: &mut [u8]) -> Made
 {
     let mut nodes = program::node_table();
     let mut items = program::item_table();
-    match account::account(file, &mut nodes, &mut items, no_totals()) {
-        Accounted::Refused(n, p, _) => refuse(text, tail, n, p),
-        Accounted::Is(k, _) => {
+    match account::account(file, &mut nodes, &mut items, no_totals()).kinds {
+        Err(e) => refuse(text, tail, e),
+        Ok(k) => {
             let end = put_kinds(text, 0, k);
             conclude(text, tail, end, 0)
         }
@@ -106,9 +106,9 @@ pub fn make_bytes_line(file: &[u8], tail: &[u8], text: &mut [u8]) -> Made
 {
     let mut nodes = program::node_table();
     let mut items = program::item_table();
-    match account::account(file, &mut nodes, &mut items, no_totals()) {
-        Accounted::Refused(n, p, _) => refuse(text, tail, n, p),
-        Accounted::Is(k, _) => {
+    match account::account(file, &mut nodes, &mut items, no_totals()).kinds {
+        Err(e) => refuse(text, tail, e),
+        Ok(k) => {
             let end = put_in_line(text, tail, k);
             conclude(text, tail, end, 0)
         }

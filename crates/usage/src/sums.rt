@@ -8,34 +8,28 @@ ghost use Rattle.lines.specs.Answer.{Gives};
 ghost use Rattle.usage.specs.Bytes.{kinds_in, with_file, sum_lines, sums_of, sums_told};
 
 use crate::kinds::{no_totals, put_kind, put_kinds};
-use account::{Accounted, Totals};
+use account::Totals;
 use lines::{Made, conclude, refuse};
+use refusals::{Reason, Refusal};
 
-// The totals of the files so far; or a refusal, as number and place.
-#[derive(Clone, Copy)]
-pub enum Sums {
-    Of(Totals),
-    Refused(u64, usize),
-}
+// The totals of the files so far, or a refusal.
+pub type Sums = Result<Totals, Refusal>;
 
 // The sums of no file.
 pub fn no_sums() -> Sums
     ensures { sums_told result ≡ good zeros }
 {
-    Sums::Of(no_totals())
+    Ok(no_totals())
 }
 
 // One more file, which is too long.
 fn add_long(t: Totals) -> Totals
     ensures { result ≡ refused_one t }
 {
-    let files = room::on(t.files, 1);
-    let refused = room::on(t.refused, 1);
-    let kinds = t.kinds;
     Totals {
-        files,
-        refused,
-        kinds,
+        files: room::on(t.files, 1),
+        refused: room::on(t.refused, 1),
+        kinds: t.kinds,
     }
 }
 
@@ -45,28 +39,21 @@ fn add_short(t: Totals, file: &[u8]) -> Totals
 {
     let mut nodes = program::node_table();
     let mut items = program::item_table();
-    match account::account(file, &mut nodes, &mut items, t) {
-        Accounted::Refused(_, _, left) => left,
-        Accounted::Is(_, left) => left,
-    }
+    account::account(file, &mut nodes, &mut items, t).totals
 }
 
 // The sums with one more file. A file that is refused or too long is counted, and so is that it was refused; a 1,001st ends the sums.
 pub fn add_file(sums: Sums, file: &[u8]) -> Sums
     ensures { sums_told result ≡ with_file (sums_told sums) file.now }
 {
-    match sums {
-        Sums::Refused(n, p) => Sums::Refused(n, p),
-        Sums::Of(t) => {
-            if account::MOST_FILES <= t.files {
-                return Sums::Refused(cursor::TOO_MANY_FILES, 0);
-            }
-            if file.len() > program::LONGEST {
-                return Sums::Of(add_long(t));
-            }
-            Sums::Of(add_short(t, file))
-        }
+    let t = sums?;
+    if account::MOST_FILES <= t.files {
+        return Err(Refusal(Reason::TooManyFiles, 0));
     }
+    if file.len() > program::LONGEST {
+        return Ok(add_long(t));
+    }
+    Ok(add_short(t, file))
 }
 
 // Puts the lines of sums.
@@ -84,8 +71,8 @@ pub fn make_sums(sums: Sums, text: &mut [u8]) -> Made
     ensures gives { Gives (length text.old) result text.new (sums_of (length text.old) (sums_told sums)) }
 {
     match sums {
-        Sums::Refused(n, p) => refuse(text, b"", n, p),
-        Sums::Of(t) => {
+        Err(e) => refuse(text, b"", e),
+        Ok(t) => {
             let end = put_sums(text, t);
             conclude(text, b"", end, 0)
         }

@@ -8,21 +8,7 @@ ghost use Rattle.utf16.specs.Unicode.{bytes_of, utf8, bytes16, first16, tails, f
 ghost use Rattle.utf16.specs.Told.{char_told};
 ghost use Rattle.room.specs.Told.{told};
 
-use room::Written;
-
-// The character at a place: its scalar value and how many bytes it takes.
-#[derive(Clone, Copy)]
-pub enum Character {
-    Is(u64, usize),
-    Bad,
-}
-
-// A byte as a number.
-fn wide(b: u8) -> u64
-    ensures { (result ≡ b) × (result < 256) }
-{
-    b as u64
-}
+use refusals::{Reason, Refusal};
 
 // The unit at a place, the high byte first.
 fn unit(units: &[u8], at: usize) -> u64
@@ -30,40 +16,40 @@ fn unit(units: &[u8], at: usize) -> u64
     ensures value { result ≡ get_or units.now at 0 * 256 + get_or units.now (at + 1) 0 }
     ensures upper_bound { result < 65536 }
 {
-    let high = wide(units[at]);
-    let low = wide(units[at + 1]);
+    let high = cursor::wide(units[at]);
+    let low = cursor::wide(units[at + 1]);
     high * 256 + low
 }
 
-// The character of UTF-16 at a place.
-pub fn char16(units: &[u8], at: usize) -> Character
+// The character of UTF-16 at a place: its scalar value and how many bytes it takes.
+pub fn char16(units: &[u8], at: usize) -> Option<(u64, usize)>
     ensures { char_told result ≡ first16 (drop at units.now) }
 {
     let left = room::room_at(units.len(), at);
     if left < 2 {
-        return Character::Bad;
+        return None;
     }
     let u = unit(units, at);
     if u < 0xd800 {
-        return Character::Is(u, 2);
+        return Some((u, 2));
     }
     if 0xe000 <= u {
-        return Character::Is(u, 2);
+        return Some((u, 2));
     }
     if 0xdc00 <= u {
-        return Character::Bad;
+        return None;
     }
     if left < 4 {
-        return Character::Bad;
+        return None;
     }
     let v = unit(units, at + 2);
     if v < 0xdc00 {
-        return Character::Bad;
+        return None;
     }
     if 0xe000 <= v {
-        return Character::Bad;
+        return None;
     }
-    Character::Is(0x10000 + (u - 0xd800) * 1024 + (v - 0xdc00), 4)
+    Some((0x10000 + (u - 0xd800) * 1024 + (v - 0xdc00), 4))
 }
 
 // The last six bits of a number, as a byte after the first.
@@ -98,56 +84,59 @@ pub fn put8(out: &mut [u8], to: usize, c: u64) -> usize
 
 // The character whose first byte gave `lead`: `count` bytes of six bits follow from `from` on; it has `size` bytes in all, and no shorter form where
 // its value is at least `low`.
-fn read_tails(text: &[u8], from: usize, count: usize, lead: u64, size: usize, low: u64) -> Character
+fn read_tails(
+    text: &[u8],
+    from: usize,
+    count: usize,
+    lead: u64,
+    size: usize,
+    low: u64,
+) -> Option<(u64, usize)>
     requires { (count ≤ 3) × (lead < 64) × (from ≤ length text.now) }
     ensures { char_told result ≡ tails count lead size low (drop from text.now) }
 {
-    let mut at = from;
-    let mut left = count;
     let mut v = lead;
-    while 0 < left {
+    for at in from..from + count {
         if text.len() <= at {
-            return Character::Bad;
+            return None;
         }
-        let b = wide(text[at]);
+        let b = cursor::wide(text[at]);
         if b < 0x80 {
-            return Character::Bad;
+            return None;
         }
         if 0xc0 <= b {
-            return Character::Bad;
+            return None;
         }
         v = v * 64 + (b - 0x80);
-        at = at + 1;
-        left = left - 1;
     }
     if v < low {
-        return Character::Bad;
+        return None;
     }
     if v < 0xd800 {
-        return Character::Is(v, size);
+        return Some((v, size));
     }
     if v < 0xe000 {
-        return Character::Bad;
+        return None;
     }
     if v < 0x110000 {
-        return Character::Is(v, size);
+        return Some((v, size));
     }
-    Character::Bad
+    None
 }
 
-// The character of UTF-8 at a place.
-pub fn char8(text: &[u8], at: usize) -> Character
+// The character of UTF-8 at a place: its scalar value and how many bytes it takes.
+pub fn char8(text: &[u8], at: usize) -> Option<(u64, usize)>
     ensures { char_told result ≡ first8 (drop at text.now) }
 {
     if text.len() <= at {
-        return Character::Bad;
+        return None;
     }
-    let b = wide(text[at]);
+    let b = cursor::wide(text[at]);
     if b < 0x80 {
-        return Character::Is(b, 1);
+        return Some((b, 1));
     }
     if b < 0xc0 {
-        return Character::Bad;
+        return None;
     }
     if b < 0xe0 {
         return read_tails(text, at + 1, 1, b - 0xc0, 2, 0x80);
@@ -158,7 +147,7 @@ pub fn char8(text: &[u8], at: usize) -> Character
     if b < 0xf8 {
         return read_tails(text, at + 1, 3, b - 0xf0, 4, 0x10000);
     }
-    Character::Bad
+    None
 }
 
 // Puts a unit, the high byte first.
@@ -188,8 +177,8 @@ pub fn after_mark(units: &[u8]) -> usize
     ensures upper_bound { result ≤ length units.now }
 {
     match char16(units, 0) {
-        Character::Bad => 0,
-        Character::Is(value, size) => {
+        None => 0,
+        Some((value, size)) => {
             if value == 0xfeff {
                 return size;
             }
@@ -199,7 +188,7 @@ pub fn after_mark(units: &[u8]) -> usize
 }
 
 // Converts UTF-16 into UTF-8.
-pub fn to_utf8(units: &[u8], text: &mut [u8]) -> Written
+pub fn to_utf8(units: &[u8], text: &mut [u8]) -> Result<usize, Refusal>
     ensures answer { told result ≡ counted (fitting (length text.old) (to_utf8 units.now)) }
     ensures text { text.new ≡ kept (length text.old) (fitting (length text.old) (to_utf8 units.now)) }
 {
@@ -207,26 +196,26 @@ pub fn to_utf8(units: &[u8], text: &mut [u8]) -> Written
     let mut next = 0;
     while at < units.len() {
         match char16(units, at) {
-            Character::Bad => {
-                room::clear_bytes(text);
-                return Written::Refused(cursor::BAD_TEXT, at);
+            None => {
+                text.fill(0);
+                return Err(Refusal(Reason::BadText, at));
             }
-            Character::Is(value, size) => {
+            Some((value, size)) => {
                 next = put8(text, next, value);
                 at = at + size;
             }
         }
     }
     if text.len() < next {
-        room::clear_bytes(text);
-        return Written::Refused(cursor::NO_ROOM, 0);
+        text.fill(0);
+        return Err(Refusal(Reason::NoRoom, 0));
     }
-    room::clear_bytes_from(text, next);
-    Written::Bytes(next)
+    room::fill_from(text, next, 0);
+    Ok(next)
 }
 
 // Converts UTF-8 into UTF-16.
-pub fn to_utf16(text: &[u8], units: &mut [u8]) -> Written
+pub fn to_utf16(text: &[u8], units: &mut [u8]) -> Result<usize, Refusal>
     ensures answer { told result ≡ counted (fitting (length units.old) (to_utf16 text.now)) }
     ensures units { units.new ≡ kept (length units.old) (fitting (length units.old) (to_utf16 text.now)) }
 {
@@ -234,22 +223,22 @@ pub fn to_utf16(text: &[u8], units: &mut [u8]) -> Written
     let mut next = 0;
     while at < text.len() {
         match char8(text, at) {
-            Character::Bad => {
-                room::clear_bytes(units);
-                return Written::Refused(cursor::BAD_TEXT, at);
+            None => {
+                units.fill(0);
+                return Err(Refusal(Reason::BadText, at));
             }
-            Character::Is(value, size) => {
+            Some((value, size)) => {
                 next = put16(units, next, value);
                 at = at + size;
             }
         }
     }
     if units.len() < next {
-        room::clear_bytes(units);
-        return Written::Refused(cursor::NO_ROOM, 0);
+        units.fill(0);
+        return Err(Refusal(Reason::NoRoom, 0));
     }
-    room::clear_bytes_from(units, next);
-    Written::Bytes(next)
+    room::fill_from(units, next, 0);
+    Ok(next)
 }
 
 // Whether UTF-16 converts.
@@ -259,10 +248,10 @@ pub fn converts(units: &[u8]) -> bool
     let mut at = 0;
     while at < units.len() {
         match char16(units, at) {
-            Character::Bad => {
+            None => {
                 return false;
             }
-            Character::Is(_, size) => {
+            Some((_, size)) => {
                 at = at + size;
             }
         }

@@ -26,8 +26,3 @@ unfolding fit stored
 fits size ws z e =
     let n : length (take size ws) ≤ size = omega (arith, length-take size ws) in
     e ∙ ap (λ v. sets v 0 (take (length v) ws)) z ∙ ap (λ n. sets (replicate size 0) 0 (take n ws)) (length-replicate size 0) ∙ sets-zeros size (take size ws) n
-
--- the answer's words, once its case is known
-pub put_as : {A E : Type 0} (values : A → List ℕ) (told : E → Result A) (size : ℕ) {a : List ℕ} (r : E) {r' : E} → r ≡ r' → a ≡ fit size
-    (saying values (told r')) → a ≡ fit size (saying values (told r))
-put_as values told size r e k = k ∙ ap (λ v. fit size (saying values (told v))) (sym e)

@@ -2,32 +2,27 @@
 #![tactic(auto)]
 
 ghost use Rattle.std.specs.Prelude.{◌≡◌, ◌∷◌, [], length, get_or};
+ghost use Rattle.refusals.specs.Reasons.{number_of};
+ghost use Rattle.room.specs.Told.{told};
 ghost use Rattle.file.specs.Told as told_tree;
 ghost use Rattle.find.specs.Told as told_find;
 ghost use Rattle.resolve.specs.Told as told_resolve;
-ghost use Rattle.description.specs.Told as told_description;
-ghost use Rattle.mobile.specs.Told as told_mobile;
 ghost use Rattle.account.specs.Told as told_account;
-ghost use Rattle.account.specs.Told.{kind_words, total_words, totals_in};
+ghost use Rattle.account.specs.Told.{kind_words, total_words};
 ghost use Rattle.mend.specs.Told as told_mend;
 ghost use Rattle.mend.specs.Told.{size_words};
-ghost use Rattle.room.specs.Told as told_room;
 ghost use Rattle.id3.specs.Told as told_tag;
-ghost use Rattle.shelf.specs.Told.{told_outcome, told_got};
+ghost use Rattle.shelf.specs.Told.{told_outcome};
 ghost use Rattle.promises.specs.Promises.{saying, tree_values, item_values, resource_values, one_value, frame_values};
 ghost use Rattle.promises.specs.Shelf.{no_value};
 ghost use Rattle.words.specs.Fit.{fit, stored, totals_of};
 
 use account::{Accounted, Kinds, Totals};
-use description::Counted;
-use file::Answer;
-use find::Found;
-use id3::{FrameCount, Framed};
-use mend::Mending;
-use mobile::Judged;
+use cursor::Item;
+use file::Tree;
+use id3::TagFrame;
+use refusals::Refusal;
 use resolve::Resolved;
-use room::Written;
-use shelf::{Got, Outcome};
 
 // Stores the words from the buffer's first word on, as many as fit.
 fn put_front(buffer: &mut [u64], words: &[u64])
@@ -45,38 +40,34 @@ fn put_front(buffer: &mut [u64], words: &[u64])
 fn put_answer(answer: &mut [u64], words: &[u64])
     ensures { answer.new ≡ fit (length answer.old) words.now }
 {
-    room::clear(answer);
+    answer.fill(0);
     put_front(answer, words);
 }
 
 // A refusal's number and place.
-fn put_refusal(answer: &mut [u64], number: u64, place: usize)
-    ensures { answer.new ≡ fit (length answer.old) (number ∷ place ∷ []) }
+fn put_refusal(answer: &mut [u64], refusal: Refusal)
+    ensures { answer.new ≡ fit (length answer.old) (number_of refusal.0 ∷ refusal.1 ∷ []) }
 {
-    let words = [number, place as u64];
-    put_answer(answer, &words);
+    put_answer(answer, &[refusal.0.number(), refusal.1 as u64]);
 }
 
 // The tree's version, nodes and item rows.
-pub fn put_tree(answer: &mut [u64], said: Answer)
+pub fn put_tree(answer: &mut [u64], said: Result<Tree, Refusal>)
     ensures { answer.new ≡ fit (length answer.old) (saying tree_values (told_tree.told said)) }
 {
     match said {
-        Answer::Refused(n, p) => put_refusal(answer, n, p),
-        Answer::Tree(version, n, i) => {
-            let words = [0, 0, version, n as u64, i as u64];
-            put_answer(answer, &words);
-        }
+        Err(refusal) => put_refusal(answer, refusal),
+        Ok(t) => put_answer(answer, &[0, 0, t.version, t.nodes as u64, t.items as u64]),
     }
 }
 
 // The item row that was found, and its ten words.
-pub fn put_found(answer: &mut [u64], said: Found)
+pub fn put_found(answer: &mut [u64], said: Result<(usize, Item), Refusal>)
     ensures { answer.new ≡ fit (length answer.old) (saying item_values (told_find.told said)) }
 {
     match said {
-        Found::Refused(n, p) => put_refusal(answer, n, p),
-        Found::Item(i, r) => {
+        Err(refusal) => put_refusal(answer, refusal),
+        Ok((i, r)) => {
             let words = [
                 0,
                 0,
@@ -98,51 +89,42 @@ pub fn put_found(answer: &mut [u64], said: Found)
 }
 
 // The resource's place and length, its row, the references followed.
-pub fn put_resolved(answer: &mut [u64], said: Resolved)
+pub fn put_resolved(answer: &mut [u64], said: Result<Resolved, Refusal>)
     ensures { answer.new ≡ fit (length answer.old) (saying resource_values (told_resolve.told said)) }
 {
     match said {
-        Resolved::Refused(n, p) => put_refusal(answer, n, p),
-        Resolved::At(place, size, last, hops) => {
-            let words = [0, 0, place.0 as u64, size as u64, last as u64, hops];
+        Err(refusal) => put_refusal(answer, refusal),
+        Ok(r) => {
+            let words = [0, 0, r.place.0 as u64, r.size as u64, r.last as u64, r.hops];
             put_answer(answer, &words);
         }
     }
 }
 
-// The count.
-pub fn put_counted(answer: &mut [u64], said: Counted)
-    ensures { answer.new ≡ fit (length answer.old) (saying one_value (told_description.told said)) }
+// A count, or a verdict.
+pub fn put_number(answer: &mut [u64], said: Result<u64, Refusal>)
+    ensures { answer.new ≡ fit (length answer.old) (saying one_value (told said)) }
 {
     match said {
-        Counted::Refused(n, p) => put_refusal(answer, n, p),
-        Counted::Count(n) => {
-            let words = [0, 0, n];
-            put_answer(answer, &words);
-        }
+        Err(refusal) => put_refusal(answer, refusal),
+        Ok(n) => put_answer(answer, &[0, 0, n]),
     }
 }
 
-// The verdict.
-pub fn put_judged(answer: &mut [u64], said: Judged)
-    ensures { answer.new ≡ fit (length answer.old) (saying one_value (told_mobile.told said)) }
+// How many bytes or frames there are.
+pub fn put_size(answer: &mut [u64], said: Result<usize, Refusal>)
+    ensures { answer.new ≡ fit (length answer.old) (saying one_value (told said)) }
 {
-    match said {
-        Judged::Refused(n, p) => put_refusal(answer, n, p),
-        Judged::Verdict(v) => {
-            let words = [0, 0, v];
-            put_answer(answer, &words);
-        }
-    }
+    put_number(answer, said.map(|n| n as u64));
 }
 
 // The nine counts.
 pub fn put_accounted(answer: &mut [u64], said: Accounted)
     ensures { answer.new ≡ fit (length answer.old) (saying kind_words (told_account.told said)) }
 {
-    match said {
-        Accounted::Refused(n, p, _) => put_refusal(answer, n, p),
-        Accounted::Is(k, _) => {
+    match said.kinds {
+        Err(refusal) => put_refusal(answer, refusal),
+        Ok(k) => {
             let words = [
                 0,
                 0,
@@ -158,16 +140,6 @@ pub fn put_accounted(answer: &mut [u64], said: Accounted)
             ];
             put_answer(answer, &words);
         }
-    }
-}
-
-// The totals that an answer has.
-pub fn totals_in(said: Accounted) -> Totals
-    ensures { result ≡ totals_in said }
-{
-    match said {
-        Accounted::Refused(_, _, t) => t,
-        Accounted::Is(_, t) => t,
     }
 }
 
@@ -226,77 +198,32 @@ pub fn read_totals(words: &[u64]) -> Totals
     }
 }
 
-// The number of bytes written.
-pub fn put_written(answer: &mut [u64], said: Written)
-    ensures { answer.new ≡ fit (length answer.old) (saying one_value (told_room.told said)) }
-{
-    match said {
-        Written::Refused(n, p) => put_refusal(answer, n, p),
-        Written::Bytes(n) => {
-            let words = [0, 0, n as u64];
-            put_answer(answer, &words);
-        }
-    }
-}
-
 // The bytes of the copy, and of the lines.
-pub fn put_mended(answer: &mut [u64], said: Mending)
+pub fn put_mended(answer: &mut [u64], said: Result<(usize, usize), Refusal>)
     ensures { answer.new ≡ fit (length answer.old) (saying size_words (told_mend.told said)) }
 {
     match said {
-        Mending::Refused(n, p) => put_refusal(answer, n, p),
-        Mending::Is(copy, lines) => {
-            let words = [0, 0, copy as u64, lines as u64];
-            put_answer(answer, &words);
-        }
-    }
-}
-
-// The number of a tag's frames.
-pub fn put_frame_count(answer: &mut [u64], said: FrameCount)
-    ensures { answer.new ≡ fit (length answer.old) (saying one_value (told_tag.count_told said)) }
-{
-    match said {
-        FrameCount::Refused(n, p) => put_refusal(answer, n, p),
-        FrameCount::Is(frames) => {
-            let words = [0, 0, frames as u64];
-            put_answer(answer, &words);
-        }
+        Err(refusal) => put_refusal(answer, refusal),
+        Ok((copy, lines)) => put_answer(answer, &[0, 0, copy as u64, lines as u64]),
     }
 }
 
 // A frame's name, and its contents' place and length.
-pub fn put_frame(answer: &mut [u64], said: Framed)
+pub fn put_frame(answer: &mut [u64], said: Result<TagFrame, Refusal>)
     ensures { answer.new ≡ fit (length answer.old) (saying frame_values (told_tag.frame_told said)) }
 {
     match said {
-        Framed::Refused(n, p) => put_refusal(answer, n, p),
-        Framed::Is(x) => {
-            let words = [0, 0, x.name, x.place as u64, x.size as u64];
-            put_answer(answer, &words);
-        }
+        Err(refusal) => put_refusal(answer, refusal),
+        Ok(x) => put_answer(answer, &[0, 0, x.name, x.place as u64, x.size as u64]),
     }
 }
 
 // No value: put and drop answer none.
-pub fn put_outcome(answer: &mut [u64], said: Outcome)
+pub fn put_outcome(answer: &mut [u64], said: Result<(), Refusal>)
     ensures { answer.new ≡ fit (length answer.old) (saying no_value (told_outcome said)) }
 {
     match said {
-        Outcome::Refused(n, p) => put_refusal(answer, n, p),
-        Outcome::Done => put_refusal(answer, 0, 0),
-    }
-}
-
-// The number of bytes of a sheet.
-pub fn put_got(answer: &mut [u64], said: Got)
-    ensures { answer.new ≡ fit (length answer.old) (saying one_value (told_got said)) }
-{
-    match said {
-        Got::Refused(n, p) => put_refusal(answer, n, p),
-        Got::Sheet(n) => {
-            let words = [0, 0, n as u64];
-            put_answer(answer, &words);
-        }
+        Err(refusal) => put_refusal(answer, refusal),
+        Ok(()) => put_answer(answer, &[0, 0]),
     }
 }

@@ -12,7 +12,6 @@ use answers::Asked;
 use asking::Mode;
 use console::Host;
 use find::Field;
-use spelling::Number;
 use std::fmt::InlineText;
 use std::fs::OpenOptions;
 use std::io::{Result, Write};
@@ -22,15 +21,14 @@ use std::rt::{Env, Files};
 // The mode that the argument after the command names.
 fn named_mode(rt: &impl Env) -> Mode {
     if console::is_word(rt, 3, b"names") {
-        return Mode::Field;
+        Mode::Field
+    } else if console::is_word(rt, 3, b"heads") {
+        Mode::Head
+    } else if console::is_word(rt, 3, b"quiet") {
+        Mode::Quiet
+    } else {
+        Mode::Plain
     }
-    if console::is_word(rt, 3, b"heads") {
-        return Mode::Head;
-    }
-    if console::is_word(rt, 3, b"quiet") {
-        return Mode::Quiet;
-    }
-    Mode::Plain
 }
 
 // MODE FILE..; an answer of several lines
@@ -50,25 +48,17 @@ fn find_asked(own: bool, row: usize, field: Field) -> Asked {
 }
 
 fn find_number(rt: &impl Host, own: bool, row: usize) -> u64 {
-    match console::number_at(rt, 7) {
-        Number::None => 1,
-        Number::Is(number) => asking::answer_one(
-            rt,
-            find_asked(own, row, Field::Standard(number)),
-            b"",
-            4,
-        ),
-    }
+    let Some(number) = console::number_at(rt, 7) else {
+        return 1;
+    };
+    asking::answer_one(rt, find_asked(own, row, Field::Standard(number)), b"", 4)
 }
 
 fn find_name(rt: &impl Host, own: bool, row: usize) -> u64 {
     let mut name = io::buffer();
-    match program::arg(rt, 7, &mut name) {
-        Ok(n) => asking::answer_one(rt, find_asked(own, row, Field::Custom), &name[..n], 4),
-        Err(error) => {
-            console::failed(rt, b"the field's name", error);
-            1
-        }
+    match console::arg_at(rt, 7, b"the field's name", &mut name) {
+        Some(n) => asking::answer_one(rt, find_asked(own, row, Field::Custom), &name[..n], 4),
+        None => 1,
     }
 }
 
@@ -77,16 +67,14 @@ fn finds(rt: &impl Host, count: usize) -> u64 {
     if count != 8 {
         return console::usage(rt);
     }
-    match console::number_at(rt, 5) {
-        Number::None => 1,
-        Number::Is(row) => {
-            let own = console::is_word(rt, 3, b"own");
-            if console::is_word(rt, 6, b"S") {
-                return find_number(rt, own, row as usize);
-            }
-            find_name(rt, own, row as usize)
-        }
+    let Some(row) = console::number_at(rt, 5) else {
+        return 1;
+    };
+    let own = console::is_word(rt, 3, b"own");
+    if console::is_word(rt, 6, b"S") {
+        return find_number(rt, own, row as usize);
     }
+    find_name(rt, own, row as usize)
 }
 
 // FILE ROW
@@ -94,145 +82,70 @@ fn resolves(rt: &impl Host, count: usize) -> u64 {
     if count != 5 {
         return console::usage(rt);
     }
-    match console::number_at(rt, 4) {
-        Number::None => 1,
-        Number::Is(row) => asking::answer_one(rt, Asked::Place(row as usize), b"", 3),
-    }
+    let Some(row) = console::number_at(rt, 4) else {
+        return 1;
+    };
+    asking::answer_one(rt, Asked::Place(row as usize), b"", 3)
 }
 
 fn needs_row(rt: &impl Host) -> u64 {
-    match console::number_at(rt, 4) {
-        Number::None => 1,
-        Number::Is(row) => asking::answer_one(rt, Asked::RowNeeds(row as usize), b"", 3),
-    }
+    let Some(row) = console::number_at(rt, 4) else {
+        return 1;
+    };
+    asking::answer_one(rt, Asked::RowNeeds(row as usize), b"", 3)
 }
 
 fn needs_count(rt: &impl Host) -> u64 {
-    match console::number_at(rt, 4) {
-        Number::None => 1,
-        Number::Is(row) => match console::number_at(rt, 5) {
-            Number::None => 1,
-            Number::Is(channel) => match console::number_at(rt, 6) {
-                Number::None => 1,
-                Number::Is(resource) => {
-                    asking::answer_one(rt, Asked::Count(row as usize, channel, resource), b"", 3)
-                }
-            },
-        },
-    }
+    let Some(row) = console::number_at(rt, 4) else {
+        return 1;
+    };
+    let Some(channel) = console::number_at(rt, 5) else {
+        return 1;
+    };
+    let Some(resource) = console::number_at(rt, 6) else {
+        return 1;
+    };
+    asking::answer_one(rt, Asked::Count(row as usize, channel, resource), b"", 3)
 }
 
 // FILE, FILE ROW, or FILE ROW CHANNEL RESOURCE
 fn needs(rt: &impl Host, count: usize) -> u64 {
-    if count == 5 {
-        return needs_row(rt);
+    match count {
+        5 => needs_row(rt),
+        7 => needs_count(rt),
+        _ => asking::one(rt, Asked::Needs, count),
     }
-    if count == 7 {
-        return needs_count(rt);
-    }
-    asking::one(rt, Asked::Needs, count)
 }
 
-// A command over files with a word for how each is named; or one of those below.
+// Runs the command with this name.
 fn run_named(rt: &impl Host, word: &[u8], count: usize) -> u64 {
-    if word == b"sheet".as_slice() {
-        return longer(rt, Asked::Sheet, count);
+    match word {
+        b"sheet" => longer(rt, Asked::Sheet, count),
+        b"sheet2" => longer(rt, Asked::Sheet2, count),
+        b"bytes" => longer(rt, Asked::Bytes, count),
+        b"verdict" => asking::answer_files(rt, Asked::Verdict, named_mode(rt), 4, count),
+        b"check" => asking::answer_files(rt, Asked::Check, Mode::Field, 3, count),
+        b"show" => asking::answer_files(rt, Asked::Sheet, Mode::Shown, 3, count),
+        b"bytes-line" => asking::answer_files(rt, Asked::BytesLine, Mode::Field, 3, count),
+        b"bytes-sum" => sums::sum_files(rt, 3, count),
+        b"reorder" => asking::one(rt, Asked::Moved, count),
+        b"rows" => asking::one(rt, Asked::Rows, count),
+        b"title" => asking::one(rt, Asked::Titles, count),
+        b"mend" => asking::one(rt, Asked::MendLines, count),
+        b"runs" => runs::runs(rt, count),
+        b"find" => finds(rt, count),
+        b"resolve" => resolves(rt, count),
+        b"needs" => needs(rt, count),
+        b"id3" => tags::tags(rt, count),
+        b"id3-tag" => tags::own_tag(rt, count),
+        b"extract" => handouts::extract(rt, count),
+        b"correct" => corrections::correct(rt, count),
+        b"mended" => handouts::mend(rt, count),
+        b"to-utf8" => handouts::convert(rt, Asked::Utf8, count),
+        b"to-utf16" => handouts::convert(rt, Asked::Utf16, count),
+        b"shelf" => shelves::run(rt, count),
+        _ => console::usage(rt),
     }
-    if word == b"sheet2".as_slice() {
-        return longer(rt, Asked::Sheet2, count);
-    }
-    if word == b"bytes".as_slice() {
-        return longer(rt, Asked::Bytes, count);
-    }
-    if word == b"verdict".as_slice() {
-        return asking::answer_files(rt, Asked::Verdict, named_mode(rt), 4, count);
-    }
-    run_over(rt, word, count)
-}
-
-// Another command over files; or one of those below.
-fn run_over(rt: &impl Host, word: &[u8], count: usize) -> u64 {
-    if word == b"check".as_slice() {
-        return asking::answer_files(rt, Asked::Check, Mode::Field, 3, count);
-    }
-    if word == b"show".as_slice() {
-        return asking::answer_files(rt, Asked::Sheet, Mode::Shown, 3, count);
-    }
-    if word == b"bytes-line".as_slice() {
-        return asking::answer_files(rt, Asked::BytesLine, Mode::Field, 3, count);
-    }
-    if word == b"bytes-sum".as_slice() {
-        return sums::sum_files(rt, 3, count);
-    }
-    run_of(rt, word, count)
-}
-
-// A command of one file; or one of those below.
-fn run_of(rt: &impl Host, word: &[u8], count: usize) -> u64 {
-    if word == b"reorder".as_slice() {
-        return asking::one(rt, Asked::Moved, count);
-    }
-    if word == b"rows".as_slice() {
-        return asking::one(rt, Asked::Rows, count);
-    }
-    if word == b"title".as_slice() {
-        return asking::one(rt, Asked::Titles, count);
-    }
-    if word == b"mend".as_slice() {
-        return asking::one(rt, Asked::MendLines, count);
-    }
-    if word == b"runs".as_slice() {
-        return runs::runs(rt, count);
-    }
-    run_about(rt, word, count)
-}
-
-// A command about a part of a file; or one of those below.
-fn run_about(rt: &impl Host, word: &[u8], count: usize) -> u64 {
-    if word == b"find".as_slice() {
-        return finds(rt, count);
-    }
-    if word == b"resolve".as_slice() {
-        return resolves(rt, count);
-    }
-    if word == b"needs".as_slice() {
-        return needs(rt, count);
-    }
-    if word == b"id3".as_slice() {
-        return tags::tags(rt, count);
-    }
-    if word == b"id3-tag".as_slice() {
-        return tags::own_tag(rt, count);
-    }
-    run_out(rt, word, count)
-}
-
-// A command that hands out a file; or one of those below.
-fn run_out(rt: &impl Host, word: &[u8], count: usize) -> u64 {
-    if word == b"extract".as_slice() {
-        return handouts::extract(rt, count);
-    }
-    if word == b"correct".as_slice() {
-        return corrections::correct(rt, count);
-    }
-    if word == b"mended".as_slice() {
-        return handouts::mend(rt, count);
-    }
-    run_beside(rt, word, count)
-}
-
-// A conversion, or a call on a shelf: of no file.
-fn run_beside(rt: &impl Host, word: &[u8], count: usize) -> u64 {
-    if word == b"to-utf8".as_slice() {
-        return handouts::convert(rt, Asked::Utf8, count);
-    }
-    if word == b"to-utf16".as_slice() {
-        return handouts::convert(rt, Asked::Utf16, count);
-    }
-    if word == b"shelf".as_slice() {
-        return shelves::run(rt, count);
-    }
-    console::usage(rt)
 }
 
 // Runs the command that the second argument is; its words follow.

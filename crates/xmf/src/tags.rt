@@ -1,7 +1,6 @@
 // The frames of ID3 tags.
 use answers::{Asked, Frames};
 use console::Host;
-use spelling::Number;
 use std::io::{Eprint, Print};
 
 // Answers for a hidden row, where it is meant, and says that it is hidden.
@@ -56,23 +55,20 @@ fn named_tag(rt: &impl Host, name: &[u8], row: usize, meant: bool, which: Frames
 
 fn rows_tag(rt: &impl Host, row: usize, which: Frames) -> u64 {
     let mut name = io::buffer();
-    match program::arg(rt, 4, &mut name) {
-        Ok(n) => {
+    match console::arg_at(rt, 4, b"the file's name", &mut name) {
+        Some(n) => {
             let meant = console::is_word(rt, 3, b"hidden");
             named_tag(rt, &name[..n], row, meant, which)
         }
-        Err(error) => {
-            console::failed(rt, b"the file's name", error);
-            1
-        }
+        None => 1,
     }
 }
 
 fn one_frame(rt: &impl Host, row: usize) -> u64 {
-    match console::number_at(rt, 6) {
-        Number::None => 1,
-        Number::Is(frame) => rows_tag(rt, row, Frames::One(frame as usize)),
-    }
+    let Some(frame) = console::number_at(rt, 6) else {
+        return 1;
+    };
+    rows_tag(rt, row, Frames::One(frame as usize))
 }
 
 // `shown` or `hidden`, FILE, ROW, and perhaps a frame's number
@@ -80,15 +76,13 @@ pub fn tags(rt: &impl Host, count: usize) -> u64 {
     if count != 6 && count != 7 {
         return console::usage(rt);
     }
-    match console::number_at(rt, 5) {
-        Number::None => 1,
-        Number::Is(row) => {
-            if count == 7 {
-                return one_frame(rt, row as usize);
-            }
-            rows_tag(rt, row as usize, Frames::All)
-        }
+    let Some(row) = console::number_at(rt, 5) else {
+        return 1;
+    };
+    if count == 7 {
+        return one_frame(rt, row as usize);
     }
+    rows_tag(rt, row as usize, Frames::All)
 }
 
 // What is asked of a tag: TAGFILE, and perhaps a frame's number
@@ -96,10 +90,8 @@ pub fn own_tag(rt: &impl Host, count: usize) -> u64 {
     if count != 5 {
         return asking::one(rt, Asked::Tag(Frames::All), count);
     }
-    match console::number_at(rt, 4) {
-        Number::None => 1,
-        Number::Is(frame) => {
-            asking::answer_one(rt, Asked::Tag(Frames::One(frame as usize)), b"", 3)
-        }
-    }
+    let Some(frame) = console::number_at(rt, 4) else {
+        return 1;
+    };
+    asking::answer_one(rt, Asked::Tag(Frames::One(frame as usize)), b"", 3)
 }

@@ -20,8 +20,10 @@ use Rattle.file.specs.Asking.{Result, good, bad, ask}
 use Rattle.text.specs.Text.{tabbed, number}
 use Rattle.sheet.specs.Sheet.{fitting, write, counted, kept, sheet_of}
 use Rattle.room.specs.Told.{told}
-use Rattle.room.specs.declared.Written.{Written}
-use Rattle.room.specs.declared.Written.TheVariants as written
+use Rattle.refusals.specs.Reasons.{number_of}
+use Rattle.refusals.specs.declared.Refusal.{Refusal}
+use Rattle.std.proofs.Common as std
+use Rattle.std.proofs.Common.{Ok, Err}
 use Rattle.xmf_sheet.specs.Answer.{refusal_line, too_long, lines, answer_text}
 
 -- `n` bytes at the start of a buffer, which are these
@@ -93,8 +95,8 @@ sheet_kept n room (good s) {text} k l z e =
     (prefix_len_of_le n text (omega arith), ap (λ (v : List ℕ). take n v) e ∙ take_at s (replicate (room - length s) 0) n (sym k))
 sheet_kept n room (bad m q) k l z e = absurd k
 
-pub sheet_made : (room : ℕ) (f : List ℕ) (o : Reading) {text : List ℕ} {r : Written} {n : ℕ} → told r ≡ counted (ask o (write room f)) →
-    length text ≡ room → text ≡ kept room (ask o (write room f)) → r ≡ written.Bytes n → Starts n text (lines (ask o (write room f)))
+pub sheet_made : (room : ℕ) (f : List ℕ) (o : Reading) {text : List ℕ} {r : std.Result ℕ Refusal} {n : ℕ} → told r ≡ counted (ask o (write room f)) →
+    length text ≡ room → text ≡ kept room (ask o (write room f)) → r ≡ Ok n → Starts n text (lines (ask o (write room f)))
 sheet_made room f o {text} {r} {n} e z w k =
     let x : Result (List ℕ) = ask o (write room f) in let h : good n ≡ counted x = sym (ap told k) ∙ e in
     sheet_kept n room x (subst (λ (v : Result ℕ). Says v x) (sym h) (says-own x)) (subst (Below room) (sym h) (below room f o)) z w
@@ -104,10 +106,10 @@ unfolding lines
 refusal-kept n p (good s) k = absurd k
 refusal-kept n p (bad m q) k = rw (k.0, k.1)
 
-pub refusal-made : (x : Result (List ℕ)) {r : Written} {n p : ℕ} → told r ≡ counted x → r ≡ written.Refused n p → refusal_line n p ≡ lines x
-refusal-made x {r} {n} {p} e k =
-    let h : bad n p ≡ counted x = sym (ap told k) ∙ e in
-    refusal-kept n p x (subst (λ (v : Result ℕ). Says v x) (sym h) (says-own x))
+pub refusal-made : (x : Result (List ℕ)) {r : std.Result ℕ Refusal} {e : Refusal} → told r ≡ counted x → r ≡ Err e → refusal_line (number_of e.0) e.1 ≡ lines x
+refusal-made x {r} {e} p k =
+    let h : bad (number_of e.0) e.1 ≡ counted x = sym (ap told k) ∙ p in
+    refusal-kept (number_of e.0) e.1 x (subst (λ (v : Result ℕ). Says v x) (sym h) (says-own x))
 
 -- ---- the answer's text
 

@@ -5,21 +5,22 @@
 
 ghost use Rattle.std.specs.Prelude.{◌≡◌, length, take};
 ghost use Rattle.io.specs.Counts.{IsPrefixLen};
+ghost use Rattle.refusals.specs.Reasons.{number_of};
 ghost use Rattle.room.specs.Counts as room;
 ghost use Rattle.xmf_sheet.specs.Answer.{refusal_line, too_long, answer_text};
 
-use room::Written;
+use refusals::Refusal;
 use std::io::{Eprint, Error, Input, Print, Read, Result};
 use std::process::ExitCode;
 use std::rt::{Env, Files};
 
 // Puts the line of a refusal.
-fn put_refusal(out: &mut [u8], number: u64, place: usize) -> usize
-    ensures { room.Counts out.old out.new 0 (refusal_line number place) result }
+fn put_refusal(out: &mut [u8], refusal: Refusal) -> usize
+    ensures { room.Counts out.old out.new 0 (refusal_line (number_of refusal.0) refusal.1) result }
 {
     let a = room::put_byte(out, 0, b'R');
-    let b = text::put_number(out, a, number);
-    let c = text::put_number(out, b, place as u64);
+    let b = text::put_number(out, a, refusal.0.number());
+    let c = text::put_number(out, b, refusal.1 as u64);
     room::put_byte(out, c, 0x0a)
 }
 
@@ -42,8 +43,8 @@ fn make_answer(file: &[u8], text: &mut [u8]) -> usize
     let mut nodes = program::node_table();
     let mut items = program::item_table();
     match sheet::write_sheet(file, &mut nodes, &mut items, text) {
-        Written::Bytes(n) => n,
-        Written::Refused(number, place) => put_refusal(text, number, place),
+        Ok(n) => n,
+        Err(refusal) => put_refusal(text, refusal),
     }
 }
 

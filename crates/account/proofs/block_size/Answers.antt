@@ -13,14 +13,14 @@ pub returns-then-first-lt128 : goal.returns-then-first-lt128
 returns-then-first-lt128 c = let read = number_short meta_frame 3 c.args.end c.args.file.now c.args.at (omega arith) c.wide-first.ensures.0 c.if-first-lt128.true refl in
     omega (arith, ap (counted c.args.at) read)
 
-pub overflow_add-result-in-Is : goal.overflow_add-result-in-Is
-overflow_add-result-in-Is c = omega (arith, number-inside meta_frame 3 _ _ _ (was number_told (c.number.ensures meta_frame) c.in-Is.is))
+pub overflow_add-result-in-Ok : goal.overflow_add-result-in-Ok
+overflow_add-result-in-Ok c = omega (arith, number-inside meta_frame 3 _ _ _ (was number_told (c.number.ensures meta_frame) c.in-Ok.is))
 
 pub overflow_sub-result : goal.overflow_sub-result
-overflow_sub-result c = omega (arith, number-inside meta_frame 3 _ _ _ (was number_told (c.number.ensures meta_frame) c.in-Is.is))
+overflow_sub-result c = omega (arith, number-inside meta_frame 3 _ _ _ (was number_told (c.number.ensures meta_frame) c.in-Ok.is))
 
-pub returns-in-Refused : goal.returns-in-Refused
-returns-in-Refused c = ap (counted _) (sym (was number_told (c.number.ensures meta_frame) c.in-Refused.is))
+pub returns-in-Err : goal.returns-in-Err
+returns-in-Err c = ap (counted _) (sym (was number_told (c.number.ensures meta_frame) c.in-Err.is))
 
-pub returns-in-Is : goal.returns-in-Is
-returns-in-Is c = ap (counted _) (sym (was number_told (c.number.ensures meta_frame) c.in-Is.is))
+pub returns-in-Ok : goal.returns-in-Ok
+returns-in-Ok c = ap (counted _) (sym (was number_told (c.number.ensures meta_frame) c.in-Ok.is))

@@ -6,5 +6,5 @@ use Rattle.account.proofs.follow_size.Goals as goal
 pub returns-then-row-eq1 : goal.returns-then-row-eq1
 returns-then-row-eq1 c = follow_one _ c.if-row-eq1.true
 
-pub returns : goal.returns
-returns c = follow-none _ c.if-row-eq1.false
+pub returns-else-row-eq1 : goal.returns-else-row-eq1
+returns-else-row-eq1 c = follow-none _ c.if-row-eq1.false

@@ -7,9 +7,6 @@ use Rattle.account.proofs.in_items.Goals as goal
 pub loop-i-init : goal.loop-i-init
 loop-i-init c = (omega arith, folding_begun _ _ _ _ _ _)
 
-pub item_at-requires : goal.item_at-requires
-item_at-requires c = omega (arith, c.requires)
-
 pub with_item-sum-requires : goal.with_item-sum-requires
 with_item-sum-requires c = rw c.item_at.ensures (items-small _ _ (omega arith) c.loop-i.invariant.1 c.requires.1)
 

@@ -7,9 +7,6 @@ use Rattle.account.proofs.in_nodes.Goals as goal
 pub loop-i-init : goal.loop-i-init
 loop-i-init c = (omega arith, folding_begun _ _ _ _ _ _)
 
-pub node_at-requires : goal.node_at-requires
-node_at-requires c = omega (arith, c.requires)
-
 pub with_node-sum-requires : goal.with_node-sum-requires
 with_node-sum-requires c = rw c.node_at.ensures (c.requires.0.1 _ (omega arith), nodes-small _ _ _ (omega arith) c.loop-i.invariant.1 c.requires.1)
 

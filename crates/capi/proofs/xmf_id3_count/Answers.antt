@@ -6,4 +6,4 @@ use Rattle.capi.proofs.Calls.{leaves}
 use Rattle.capi.proofs.xmf_id3_count.Goals as goal
 
 pub returns : goal.returns
-returns c = leaves _ (calls.count-frames {f = []} _ c.frame_count.result c.frame_count.ensures) c.put_frame_count.ensures
+returns c = leaves _ (calls.count-frames {f = []} _ c.frame_count.result c.frame_count.ensures) c.put_size.ensures

@@ -6,4 +6,4 @@ use Rattle.capi.proofs.Calls.{leaves}
 use Rattle.capi.proofs.xmf_move_sheet.Goals as goal
 
 pub returns : goal.returns
-returns c = leaves _ (move-sheet {f = []} c.move_sheet.result (record { answers = c.move_sheet.ensures.answer; in_buffer = c.move_sheet.ensures.room })) c.put_written.ensures
+returns c = leaves _ (move-sheet {f = []} c.move_sheet.result (record { answers = c.move_sheet.ensures.answer; in_buffer = c.move_sheet.ensures.room })) c.put_size.ensures

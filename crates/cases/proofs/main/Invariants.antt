@@ -1,12 +1,7 @@
--- `main` reads and runs a bounded number of times, and ends.
+-- What is kept stands in the text, whose length stays.
 -- Assumes nothing.
-use mathlib.Core.Path.{◌≡◌}
-use Prim.Native.Nat.{◌≤◌}
-use lib.ListN.{length}
+use Rattle.std.proofs.Common.{◌≡◌, ◌≤◌, length}
 use Rattle.cases.proofs.main.Given as goal
 
-abbrev pub invariant-loop-left : goal.invariant-loop-left
-invariant-loop-left l = (262144 ≡ length l.text) × (l.kept ≤ length l.text)
-
-abbrev pub decreases-loop-left : goal.decreases-loop-left
-decreases-loop-left l = l.left
+abbrev pub invariant-loop : goal.invariant-loop
+invariant-loop l = (262144 ≡ length l.text) × (l.kept ≤ length l.text)

@@ -1,40 +1,17 @@
--- `count_of` reads the whole item, and gives the count in it.
+-- `count_of` says what is found of a channel and a resource.
 -- Assumes nothing.
-use native.Mathlib.Omega.{arith}
-use Rattle.cursor.specs.Rows.{meta_frame}
-use Rattle.cursor.specs.Told.{number_told, pass_told}
+use mathlib.Core.Path.{sym, ap, ◌∙◌}
 use Rattle.machine.proofs.Laws.{was}
-use Rattle.cursor.proofs.Leaves.{number-inside}
-use Rattle.description.proofs.Ways.{whole-message, whole-channels, whole-resources, whole-lists, whole-table}
+use Rattle.file.specs.Asking.{good}
+use Rattle.description.specs.Told.{told}
+use Rattle.description.proofs.Ways.{count-refused, count-none, count-some}
 use Rattle.description.proofs.count_of.Goals as goal
 
-pub read_table-requires : goal.read_table-requires
-read_table-requires c = (
-  omega arith,
-  (number-inside _ _ _ _ _ (was number_told (c.number-in-Is.ensures meta_frame) c.in-Is-number.is)).3,
-  (number-inside _ _ _ _ _ (was number_told (c.number-in-Is-number.ensures meta_frame) c.in-Is-number-2.is)).3,
-)
+pub returns-in-Err : goal.returns-in-Err
+returns-in-Err c = count-refused _ _ _ (sym (was told c.read_description.ensures c.in-Err.is))
 
-pub returns-in-Refused : goal.returns-in-Refused
-returns-in-Refused c = whole-message _ _ _ _ _ (was number_told (c.number.ensures meta_frame) c.in-Refused.is)
+pub returns-in-Ok-None : goal.returns-in-Ok-None
+returns-in-Ok-None c = count-none _ _ _ (ap good (sym c.in-Ok-None.field-0-is) ∙ sym (was told c.read_description.ensures c.in-Ok-None.is))
 
-pub returns-in-Refused-number : goal.returns-in-Refused-number
-returns-in-Refused-number c = whole-channels _ _ _ _ _ (was number_told (c.number.ensures meta_frame) c.in-Is.is)
-    (was number_told (c.number-in-Is.ensures meta_frame) c.in-Refused-number.is)
-
-pub returns-in-Refused-number-2 : goal.returns-in-Refused-number-2
-returns-in-Refused-number-2 c = whole-resources _ _ _ _ _ (was number_told (c.number.ensures meta_frame) c.in-Is.is)
-    (was number_told (c.number-in-Is.ensures meta_frame) c.in-Is-number.is)
-    (was number_told (c.number-in-Is-number.ensures meta_frame) c.in-Refused-number-2.is)
-
-pub returns-in-Refused-read_lists : goal.returns-in-Refused-read_lists
-returns-in-Refused-read_lists c = whole-lists _ _ _ _ _ (was number_told (c.number.ensures meta_frame) c.in-Is.is)
-    (was number_told (c.number-in-Is.ensures meta_frame) c.in-Is-number.is)
-    (was number_told (c.number-in-Is-number.ensures meta_frame) c.in-Is-number-2.is)
-    (was pass_told c.read_lists.ensures c.in-Refused-read_lists.is)
-
-pub returns-in-To : goal.returns-in-To
-returns-in-To c = whole-table _ _ _ _ _ (was number_told (c.number.ensures meta_frame) c.in-Is.is)
-    (was number_told (c.number-in-Is.ensures meta_frame) c.in-Is-number.is)
-    (was number_told (c.number-in-Is-number.ensures meta_frame) c.in-Is-number-2.is)
-    (was pass_told c.read_lists.ensures c.in-To.is) c.read_table.ensures
+pub returns-in-Ok-Some : goal.returns-in-Ok-Some
+returns-in-Ok-Some c = count-some _ _ _ (ap good (sym c.in-Ok-Some.field-0-is) ∙ sym (was told c.read_description.ensures c.in-Ok-Some.is))

@@ -1,12 +1,7 @@
--- `read_numbers` reads the numbers one by one and keeps one of them. The invariant: what is picked of all of them is picked of those that are left, or was kept. The measure is what is
--- left of the item: there are no more turns than it has bytes, whatever the count.
+-- `read_numbers` reads the numbers one by one and keeps one of them. The invariant: what is picked of all of them is picked of those that are left, or was kept.
 -- Assumes nothing.
-use Prim.Native.Nat.{◌-◌}
 use Rattle.description.proofs.Ways.{Picking}
 use Rattle.description.proofs.read_numbers.Given as goal
 
 abbrev pub invariant-loop-i : goal.invariant-loop-i
 invariant-loop-i l = Picking l.file l.end.0 l.count l.index l.initial.next.at.0 l.i l.kept l.next.at.0
-
-abbrev pub decreases-loop-i : goal.decreases-loop-i
-decreases-loop-i l = l.end.0 - l.next.at.0

@@ -1,24 +1,24 @@
--- `read_resources` reads the resources one by one. The invariant: what is left of them is the whole. Each turn reads a byte of the item or more, so the measure is what is left
--- of the item: there are no more turns than it has bytes, whatever the count.
+-- `read_resources` reads the resources one by one. The invariant: what is left of them is the whole.
 -- Assumes nothing.
-use mathlib.Core.Path.{refl}
+use mathlib.Core.Path.{◌≡◌, refl}
+use Prim.Native.Nat.{◌+◌, ◌-◌}
 use native.Mathlib.Omega.{arith}
 use Rattle.cursor.specs.Told.{pass_told}
+use Rattle.refusals.proofs.Passing.{passed_on}
 use Rattle.machine.proofs.Laws.{was}
-use Rattle.description.proofs.Ways.{resources-done, resources-no, resources-on, resource-further}
+use Rattle.description.proofs.Ways.{resources-done, resources-no, resources-on}
 use Rattle.description.proofs.read_resources.Goals as goal
 
-pub loop-left-init : goal.loop-left-init
-loop-left-init c = record { same = refl }
+pub loop-i-init : goal.loop-i-init
+loop-i-init c = let e : c.args.count - 0 ≡ c.args.count = omega arith in rw e (record { same = refl })
 
-pub returns-in-Refused : goal.returns-in-Refused
-returns-in-Refused c = resources-no c.loop-left.invariant c.loop-left-test.true (was pass_told c.read_resource.ensures c.in-Refused.is)
+pub returns-in_err-next : goal.returns-in_err-next
+returns-in_err-next c = rw (passed_on c.from_residual.ensures.1)
+    (resources-no c.loop-i.invariant (λ e. omega (arith, c.loop-i-test.true)) (was pass_told c.read_resource.ensures c.in_err-next.was))
 
-pub loop-left-smaller : goal.loop-left-smaller
-loop-left-smaller c = omega (arith, resource-further _ _ _ (was pass_told c.read_resource.ensures c.in-To.is))
-
-pub loop-left-preserved : goal.loop-left-preserved
-loop-left-preserved c = resources-on c.loop-left.invariant c.loop-left-test.true (was pass_told c.read_resource.ensures c.in-To.is)
+pub loop-i-preserved : goal.loop-i-preserved
+loop-i-preserved c = let e : c.args.count - c.loop-i.i - 1 ≡ c.args.count - (c.loop-i.i + 1) = omega arith in
+    rw (← e) (resources-on c.loop-i.invariant (λ e. omega (arith, c.loop-i-test.true)) (was pass_told c.read_resource.ensures c.in_ok-next.was))
 
 pub returns : goal.returns
-returns c = resources-done c.loop-left.invariant c.loop-left-test.false
+returns c = resources-done c.loop-i.invariant (omega (arith, c.loop-i-test.false))

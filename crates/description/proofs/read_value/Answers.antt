@@ -2,12 +2,13 @@
 -- Assumes nothing.
 use Rattle.cursor.specs.Rows.{meta_frame}
 use Rattle.cursor.specs.Told.{number_told}
+use Rattle.refusals.proofs.Passing.{passed_on}
 use Rattle.machine.proofs.Laws.{was}
 use Rattle.description.proofs.Ways.{value-cut, value-all}
 use Rattle.description.proofs.read_value.Goals as goal
 
-pub returns-in-Refused : goal.returns-in-Refused
-returns-in-Refused c = value-cut _ _ _ (was number_told (c.number.ensures meta_frame) c.in-Refused.is)
+pub returns-in_err-d : goal.returns-in_err-d
+returns-in_err-d c = rw (passed_on c.from_residual.ensures.1) (value-cut _ _ _ (was number_told (c.number.ensures meta_frame) c.in_err-d.was))
 
-pub returns-in-Is : goal.returns-in-Is
-returns-in-Is c = value-all _ _ _ (was number_told (c.number.ensures meta_frame) c.in-Is.is)
+pub returns : goal.returns
+returns c = value-all _ _ _ (was number_told (c.number.ensures meta_frame) c.in_ok-d.was)

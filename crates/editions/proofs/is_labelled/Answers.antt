@@ -13,15 +13,15 @@ pub number_field-requires : goal.number_field-requires
 number_field-requires c = label-room c.args.line.now _ c.letter-b.ensures c.if-b-eq83.true (omega arith) (omega arith)
 
 pub is_tail-requires : goal.is_tail-requires
-is_tail-requires c = (as_told (NumberAt c.args.line.now _) c.number_field.ensures c.in-Is.is).field.inside
+is_tail-requires c = (as_told (NumberAt c.args.line.now _) c.number_field.ensures c.in-Some.is).field.inside
 
-pub returns-in-No : goal.returns-in-No
-returns-in-No c = standard-no c.args.line.now _ c.letter-b.ensures c.if-b-eq83.true
-    (as_told (NumberAt c.args.line.now _) c.number_field.ensures c.in-No.is)
+pub returns-in-None : goal.returns-in-None
+returns-in-None c = standard-no c.args.line.now _ c.letter-b.ensures c.if-b-eq83.true
+    (as_told (NumberAt c.args.line.now _) c.number_field.ensures c.in-None.is)
 
-pub returns-in-Is : goal.returns-in-Is
-returns-in-Is c = standard-is c.args.line.now _ c.letter-b.ensures c.if-b-eq83.true
-    (as_told (NumberAt c.args.line.now _) c.number_field.ensures c.in-Is.is) c.is_tail.ensures
+pub returns-in-Some : goal.returns-in-Some
+returns-in-Some c = standard-is c.args.line.now _ c.letter-b.ensures c.if-b-eq83.true
+    (as_told (NumberAt c.args.line.now _) c.number_field.ensures c.in-Some.is) c.is_tail.ensures
 
 pub overflow_add-at-then-b-eq67 : goal.overflow_add-at-then-b-eq67
 overflow_add-at-then-b-eq67 c = omega (arith, label-room c.args.line.now _ c.letter-b.ensures c.if-b-eq67.true (omega arith) (omega arith))
@@ -29,15 +29,15 @@ overflow_add-at-then-b-eq67 c = omega (arith, label-room c.args.line.now _ c.let
 pub name_field-requires : goal.name_field-requires
 name_field-requires c = label-room c.args.line.now _ c.letter-b.ensures c.if-b-eq67.true (omega arith) (omega arith)
 
-pub is_tail-requires-in-To : goal.is_tail-requires-in-To
-is_tail-requires-in-To c = (as_told (NameAt c.args.line.now _) c.name_field.ensures c.in-To.is).field.inside
+pub is_tail-requires-in-Some-name_field : goal.is_tail-requires-in-Some-name_field
+is_tail-requires-in-Some-name_field c = (as_told (NameAt c.args.line.now _) c.name_field.ensures c.in-Some-name_field.is).field.inside
 
-pub returns-in-No-name_field : goal.returns-in-No-name_field
-returns-in-No-name_field c = custom-no c.args.line.now _ c.letter-b.ensures c.if-b-eq67.true
-    (as_told (NameAt c.args.line.now _) c.name_field.ensures c.in-No-name_field.is)
+pub returns-in-None-name_field : goal.returns-in-None-name_field
+returns-in-None-name_field c = custom-no c.args.line.now _ c.letter-b.ensures c.if-b-eq67.true
+    (as_told (NameAt c.args.line.now _) c.name_field.ensures c.in-None-name_field.is)
 
-pub returns-in-To : goal.returns-in-To
-returns-in-To c = custom-is c.args.line.now _ c.letter-b.ensures c.if-b-eq67.true (as_told (NameAt c.args.line.now _) c.name_field.ensures c.in-To.is) c.is_tail-in-To.ensures
+pub returns-in-Some-name_field : goal.returns-in-Some-name_field
+returns-in-Some-name_field c = custom-is c.args.line.now _ c.letter-b.ensures c.if-b-eq67.true (as_told (NameAt c.args.line.now _) c.name_field.ensures c.in-Some-name_field.is) c.is_tail-in-Some-name_field.ensures
 
 pub returns : goal.returns
 returns c = label-none c.args.line.now _ c.letter-b.ensures c.if-b-eq83.false c.if-b-eq67.false

@@ -3,6 +3,7 @@
 use native.Mathlib.Omega.{arith}
 use Rattle.cursor.specs.Told.{number_told}
 use Rattle.machine.proofs.Laws.{was}
+use Rattle.refusals.proofs.Passing.{passed_on}
 use Rattle.id3.proofs.Ways.{head_few, head-i, head-d, head_three, head-version, head-unsynchronised, head-size, head-long, head-all}
 use Rattle.id3.proofs.read_head.Goals as goal
 
@@ -27,12 +28,12 @@ returns-then-flags-eq1 c = head-unsynchronised c.args.tag.now c.if-tag-lt10.fals
 
 pub returns-then-lent-size : goal.returns-then-lent-size
 returns-then-lent-size c = head-long c.args.tag.now c.if-tag-lt10.false c.if-tag-ne73.false c.if-tag-ne68.false c.if-tag-ne51.false c.if-tag-ne4.false
-    c.wide-flags.ensures.0 c.if-flags-eq1.false (was number_told c.read_size.ensures c.in-Is.is) (omega arith)
+    c.wide-flags.ensures.0 c.if-flags-eq1.false (was number_told c.read_size.ensures c.in_ok-size.was) (omega arith)
 
-pub returns-in-Refused : goal.returns-in-Refused
-returns-in-Refused c = head-size c.args.tag.now c.if-tag-lt10.false c.if-tag-ne73.false c.if-tag-ne68.false c.if-tag-ne51.false c.if-tag-ne4.false
-    c.wide-flags.ensures.0 c.if-flags-eq1.false (was number_told c.read_size.ensures c.in-Refused.is)
+pub returns-in_err-size : goal.returns-in_err-size
+returns-in_err-size c = rw (passed_on c.from_residual.ensures.1) (head-size c.args.tag.now c.if-tag-lt10.false c.if-tag-ne73.false c.if-tag-ne68.false c.if-tag-ne51.false c.if-tag-ne4.false
+    c.wide-flags.ensures.0 c.if-flags-eq1.false (was number_told c.read_size.ensures c.in_err-size.was))
 
-pub returns-else-lent-size : goal.returns-else-lent-size
-returns-else-lent-size c = head-all c.args.tag.now c.if-tag-lt10.false c.if-tag-ne73.false c.if-tag-ne68.false c.if-tag-ne51.false c.if-tag-ne4.false
-    c.wide-flags.ensures.0 c.if-flags-eq1.false (was number_told c.read_size.ensures c.in-Is.is) (omega arith)
+pub returns : goal.returns
+returns c = head-all c.args.tag.now c.if-tag-lt10.false c.if-tag-ne73.false c.if-tag-ne68.false c.if-tag-ne51.false c.if-tag-ne4.false
+    c.wide-flags.ensures.0 c.if-flags-eq1.false (was number_told c.read_size.ensures c.in_ok-size.was) (omega arith)

@@ -8,6 +8,6 @@ returns c = record {
   answer = refl;
   nodes = c.clear_all.ensures.nodes;
   items = c.clear_all.ensures.items;
-  copy = c.clear_bytes.ensures;
-  lines = c.clear_bytes-2.ensures;
+  copy = c.fill.ensures.after (λ _ e. e);
+  lines = c.fill-2.ensures.after (λ _ e. e);
 }

@@ -18,5 +18,5 @@ pub put_copy-requires : goal.put_copy-requires
 put_copy-requires c = (c.requires, c.if-copy-file.false)
 
 pub returns : goal.returns
-returns c = λ ws. let v = wrote-all c.put_lines-n.ensures (omega (arith, c.if-lines-n.false, c.put_lines-n.auto.lines)) (omega (arith, c.well_formed)) c.clear_bytes_from.ensures in set-good
+returns c = λ ws. let v = wrote-all c.put_lines-n.ensures (omega (arith, c.if-lines-n.false, c.put_lines-n.auto.lines)) (omega (arith, c.well_formed)) c.fill_from.ensures in set-good
     c.args.file.now (fields_of c.args.w ws) c.args.last c.if-copy-file.false v.1 (omega (arith, c.if-lines-n.false, c.put_lines-n.auto.lines)) (c.put_copy.ensures ws) v.2

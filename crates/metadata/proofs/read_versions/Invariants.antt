@@ -5,9 +5,6 @@ use Rattle.metadata.specs.Told.{context_of, counts}
 use Rattle.metadata.proofs.Ways.{Going}
 use Rattle.metadata.proofs.read_versions.Given as goal
 
-abbrev pub invariant-loop-left : goal.invariant-loop-left
-invariant-loop-left l = Going (context_of l.scope l.types (length l.file)) l.l
-    l.file l.initial.items l.end.0 l.initial.next.at.0 l.count (counts l.l.node l.initial.m) l.items l.next.at.0 l.left (counts l.l.node l.m)
-
-abbrev pub decreases-loop-left : goal.decreases-loop-left
-decreases-loop-left l = l.left
+abbrev pub invariant-loop : goal.invariant-loop
+invariant-loop l = Going (context_of l.scope l.types (length l.file)) l.l
+    l.file l.initial.items l.end.0 l.initial.next.at.0 l.count (counts l.l.node l.rows) l.items l.next.at.0 l.counter (counts l.l.node l.m)

@@ -1,7 +1,6 @@
 -- `next_row` finds the next row of a field. The invariant: the rows of the field that are left are all.
 -- Assumes nothing.
 use mathlib.Core.Path.{refl}
-use Rattle.description.specs.Row.{is_field}
 use Rattle.mobile.proofs.Lists.{next_here, next-on, next-none}
 use native.Mathlib.Omega.{arith}
 use Rattle.mobile.proofs.next_row.Goals as goal

@@ -1,7 +1,6 @@
 -- `plain_references` says what `plain_references` says. The invariant: what is left of the rows decides.
 -- Assumes nothing.
 use mathlib.Core.Path.{sym, ◌∙◌}
-use Rattle.mobile.specs.Mobile.{is_plain}
 use Rattle.mobile.proofs.Lists.{nodes-no, nodes-on, nodes-yes}
 use Rattle.mobile.proofs.Tests.{plain-are}
 use native.Mathlib.Omega.{arith}

@@ -16,12 +16,12 @@ pub returns-then-file-place-ne0 : goal.returns-then-file-place-ne0
 returns-then-file-place-ne0 c = row_first c.args.file.now c.args.row c.if-file-place-ne0.true
 
 pub returns-then-at-end : goal.returns-then-at-end
-returns-then-at-end c = row-left c.args.file.now c.args.row (was number_told (c.number.ensures meta_frame) c.in-Is.is) c.if-at-end.true
+returns-then-at-end c = row-left c.args.file.now c.args.row (was number_told (c.number.ensures meta_frame) c.in-Ok.is) c.if-at-end.true
 
-pub returns-in-Refused : goal.returns-in-Refused
-returns-in-Refused c = row_cut c.args.file.now c.args.row (was number_told (c.number.ensures meta_frame) c.in-Refused.is)
+pub returns-in-Err : goal.returns-in-Err
+returns-in-Err c = row_cut c.args.file.now c.args.row (was number_told (c.number.ensures meta_frame) c.in-Err.is)
 
 pub returns-else-at-end : goal.returns-else-at-end
-returns-else-at-end c = row_type c.args.file.now c.args.row (was number_told (c.number.ensures meta_frame) c.in-Is.is)
+returns-else-at-end c = row_type c.args.file.now c.args.row (was number_told (c.number.ensures meta_frame) c.in-Ok.is)
     c.is_binary.ensures c.if-not-is_binary.false c.if-size-eq0.false
     c.if-file-place-ne0.false c.if-at-end.false c.role_of_type.ensures

@@ -12,10 +12,10 @@ returns-then-letter-ne77 c = λ k e. node-of_none c.args.line.now c.letter.ensur
 pub number_field-requires : goal.number_field-requires
 number_field-requires c = label-room c.args.line.now 0 c.letter.ensures c.if-letter-ne77.false (omega arith) (omega arith)
 
-pub returns-in-No : goal.returns-in-No
-returns-in-No c = λ k e. node-of_no c.args.line.now c.letter.ensures c.if-letter-ne77.false
-    (as_told (NumberAt c.args.line.now 2) c.number_field.ensures c.in-No.is) e
+pub returns-in-None : goal.returns-in-None
+returns-in-None c = λ k e. node-of_no c.args.line.now c.letter.ensures c.if-letter-ne77.false
+    (as_told (NumberAt c.args.line.now 2) c.number_field.ensures c.in-None.is) e
 
-pub returns-in-Is : goal.returns-in-Is
-returns-in-Is c = λ k e. node-of_is c.args.line.now c.letter.ensures c.if-letter-ne77.false
-    (as_told (NumberAt c.args.line.now 2) c.number_field.ensures c.in-Is.is) e
+pub returns-in-Some : goal.returns-in-Some
+returns-in-Some c = λ k e. node-of_is c.args.line.now c.letter.ensures c.if-letter-ne77.false
+    (as_told (NumberAt c.args.line.now 2) c.number_field.ensures c.in-Some.is) e

@@ -3,7 +3,6 @@
 use mathlib.Core.Path.{refl}
 use native.Mathlib.Omega.{arith}
 use Rattle.room.proofs.Counting.{going_start, going_on, going_end}
-use Rattle.editions.specs.Sheets.{is_kind}
 use Rattle.editions.proofs.Places.{next-piece}
 use Rattle.editions.proofs.Judging.{lent}
 use Rattle.mover.proofs.Writing.{known_on, known-line, going_as, put-kind_one, put-kind_past, put-kind_end}

@@ -4,4 +4,4 @@ use Rattle.needs.proofs.Needing.{nothing-given}
 use Rattle.needs.proofs.hidden.Goals as goal
 
 pub returns : goal.returns
-returns c = nothing-given _ c.clear_bytes.ensures
+returns c = nothing-given _ (c.fill.ensures.after (λ _ e. e))

@@ -9,8 +9,8 @@ use Rattle.needs.proofs.make_row_count.Goals as goal
 pub returns-then-item-eq1 : goal.returns-then-item-eq1
 returns-then-item-eq1 c = gives_as (nothing-printed _ (count-hidden _ _ _ _ _ c.if-item-eq1.true)) c.hidden.ensures
 
-pub returns-in-Refused : goal.returns-in-Refused
-returns-in-Refused c = gives_as (printed-bad (λ a. a) _ _ (count-bad _ _ _ _ _ c.if-item-eq1.false (sym c.count_in.ensures ∙ ap told c.in-Refused.is))) c.refuse.ensures
+pub returns-in-Err : goal.returns-in-Err
+returns-in-Err c = gives_as (printed-bad (λ a. a) _ _ (count-bad _ _ _ _ _ c.if-item-eq1.false (sym c.count_in.ensures ∙ ap told c.in-Err.is))) c.refuse.ensures
 
-pub returns-in-Count : goal.returns-in-Count
-returns-in-Count c = gives_as (printed-good (λ a. a) _ _ (count-good _ _ _ _ _ c.if-item-eq1.false (sym c.count_in.ensures ∙ ap told c.in-Count.is))) (c.conclude.ensures _ _ c.put_count-end.ensures)
+pub returns-in-Ok : goal.returns-in-Ok
+returns-in-Ok c = gives_as (printed-good (λ a. a) _ _ (count-good _ _ _ _ _ c.if-item-eq1.false (sym c.count_in.ensures ∙ ap told c.in-Ok.is))) (c.conclude.ensures _ _ c.put_count-end.ensures)

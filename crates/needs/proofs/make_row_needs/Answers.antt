@@ -5,30 +5,31 @@ use Rattle.file.proofs.Rows.{standing}
 use Rattle.file.proofs.Own.{item-rows}
 use Rattle.needs.specs.Needed.{shown_needs, row_needs_answer}
 use Rattle.lines.proofs.Ending.{gives_as}
-use Rattle.needs.proofs.Needing.{of_unread, of_past, of_row_lem}
+use Rattle.lines.proofs.Reading.{unread-printed}
+use Rattle.needs.proofs.Needing.{of_past, of_row_lem}
 use Rattle.needs.proofs.make_row_needs.Goals as goal
 
 pub returns-then-s-row : goal.returns-then-s-row
 unfolding row_needs_answer
 returns-then-s-row c = gives_as (of_past _ c.node_table-nodes.ensures c.item_table-items.ensures _ _ shown_needs
-    (standing c.args.file.now _ _ _ c.read_file.ensures.answer c.read_file.ensures.nodes c.read_file.ensures.items c.in-Is.is)
+    (standing c.args.file.now _ _ _ c.read_file.ensures.answer c.read_file.ensures.nodes c.read_file.ensures.items c.in-Ok.is)
     c.if-s-row.true) c.refuse-then-s-row.ensures
 
 pub item_at-requires : goal.item_at-requires
-item_at-requires c = let w = (standing c.args.file.now _ _ _ c.read_file.ensures.answer c.read_file.ensures.nodes c.read_file.ensures.items c.in-Is.is)
+item_at-requires c = let w = (standing c.args.file.now _ _ _ c.read_file.ensures.answer c.read_file.ensures.nodes c.read_file.ensures.items c.in-Ok.is)
     in omega (arith, w.item_room, c.if-s-row.false)
 
 pub make_item_needs-requires : goal.make_item_needs-requires
 make_item_needs-requires c = rw c.item_at.ensures ((item-rows
-    (standing c.args.file.now _ _ _ c.read_file.ensures.answer c.read_file.ensures.nodes c.read_file.ensures.items c.in-Is.is)).1 _
+    (standing c.args.file.now _ _ _ c.read_file.ensures.answer c.read_file.ensures.nodes c.read_file.ensures.items c.in-Ok.is)).1 _
     (omega (arith, c.if-s-row.false)))
 
-pub returns-in-Refused : goal.returns-in-Refused
+pub returns-in-Err : goal.returns-in-Err
 unfolding row_needs_answer
-returns-in-Refused c = gives_as (of_unread _ c.node_table-nodes.ensures c.item_table-items.ensures _ _ shown_needs c.read_file.ensures.answer c.in-Refused.is) c.refuse.ensures
+returns-in-Err c = gives_as (unread-printed _ c.node_table-nodes.ensures c.item_table-items.ensures c.read_file.ensures.answer c.in-Err.is _ _ _ _) c.refuse.ensures
 
 pub returns-else-s-row : goal.returns-else-s-row
 unfolding row_needs_answer
 returns-else-s-row c = gives_as (of_row_lem _ c.node_table-nodes.ensures c.item_table-items.ensures _ _ shown_needs
-    (standing c.args.file.now _ _ _ c.read_file.ensures.answer c.read_file.ensures.nodes c.read_file.ensures.items c.in-Is.is)
+    (standing c.args.file.now _ _ _ c.read_file.ensures.answer c.read_file.ensures.nodes c.read_file.ensures.items c.in-Ok.is)
     (omega (arith, c.if-s-row.false)) c.item_at.ensures) c.make_item_needs.ensures

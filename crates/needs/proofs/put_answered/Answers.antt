@@ -5,8 +5,8 @@ use Rattle.lines.specs.Answer.{plainly}
 use Rattle.needs.proofs.Needing.{puts-bad, puts-good}
 use Rattle.needs.proofs.put_answered.Goals as goal
 
-pub returns-in-Refused : goal.returns-in-Refused
-returns-in-Refused c = λ o x h. let z = puts-bad _ _ _ _ _ h c.in-Refused.is in gives_as (printed-bad plainly _ _ z.0) (refuse-room _ _ _ z.1 c.refuse.ensures)
+pub returns-in-Err : goal.returns-in-Err
+returns-in-Err c = λ o x h. let z = puts-bad _ _ _ _ _ h c.in-Err.is in gives_as (printed-bad plainly _ _ z.0) (refuse-room _ _ _ z.1 c.refuse.ensures)
 
-pub returns-in-To : goal.returns-in-To
-returns-in-To c = λ o x h. let z = puts-good _ _ _ _ _ h c.in-To.is in gives_as (printed-good plainly _ _ z.1) (c.conclude.ensures _ _ z.2)
+pub returns-in-Ok : goal.returns-in-Ok
+returns-in-Ok c = λ o x h. let z = puts-good _ _ _ _ _ h c.in-Ok.is in gives_as (printed-good plainly _ _ z.1) (c.conclude.ensures _ _ z.2)

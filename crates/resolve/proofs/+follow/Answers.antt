@@ -4,9 +4,6 @@ use Rattle.resolve.proofs.Chain.{at_folder, at_one, at_uri, two-many, three_many
 use native.Mathlib.Omega.{arith}
 use Rattle.resolve.proofs.+follow.Goals as goal
 
-pub node_at-row-requires : goal.node_at-row-requires
-node_at-row-requires t c = omega (arith, c.requires)
-
 pub returns-then-row-ne0 : goal.returns-then-row-ne0
 returns-then-row-ne0 t c = at_folder _ _ _ _ _ (omega (arith, c.requires)) c.node_at-row.ensures c.if-row-ne0.true
 
@@ -18,9 +15,6 @@ pub returns-then-left-eq0 : goal.returns-then-left-eq0
 returns-then-left-eq0 t c = two-many _ _ _ _ _ (omega (arith, c.requires))
     c.node_at-row.ensures c.if-row-ne0.false
     c.if-row-eq2.true c.if-left-eq0.true
-
-pub overflow_add-result : goal.overflow_add-result
-overflow_add-result t c = omega (arith, c.requires)
 
 pub returns-then-row-eq2 : goal.returns-then-row-eq2
 returns-then-row-eq2 t c = two-on _ _ _ _ _ (omega (arith, c.requires))
@@ -39,20 +33,6 @@ returns-then-left-eq0-2 t c = three_many _ _ _ _ _
     (omega (arith, c.requires))
     c.node_at-row.ensures
     c.if-row-ne0.false c.if-row-ne3.false c.if-left-eq0-2.true
-
-pub row_starting-next-requires : goal.row_starting-next-requires
-row_starting-next-requires t c = (
-  omega (arith, c.requires),
-  omega
-      (arith, c.requires),
-  c.requires.5,
-)
-
-pub overflow_sub-left : goal.overflow_sub-left
-overflow_sub-left t c = omega (arith, c.requires)
-
-pub overflow_add-hops : goal.overflow_add-hops
-overflow_add-hops t c = omega (arith, c.requires)
 
 pub follow-requires : goal.follow-requires
 follow-requires t c = (

@@ -9,28 +9,28 @@ pub overflow_add-result : goal.overflow_add-result
 overflow_add-result c = omega (
   arith,
   part-inside c.args.file.now (length c.args.nodes.now) (length c.args.items.now) c.args.row
-      c.resolve.result c.resolve.ensures.answer c.in-At.is,
+      c.resolve.result c.resolve.ensures.answer c.in-Ok.is,
 )
 
-pub slice_bounds-result-end-in-At : goal.slice_bounds-result-end-in-At
-slice_bounds-result-end-in-At c = omega (
+pub slice_bounds-result-end-in-Ok : goal.slice_bounds-result-end-in-Ok
+slice_bounds-result-end-in-Ok c = omega (
   arith,
   part-inside c.args.file.now (length c.args.nodes.now) (length c.args.items.now) c.args.row
-      c.resolve.result c.resolve.ensures.answer c.in-At.is,
+      c.resolve.result c.resolve.ensures.answer c.in-Ok.is,
 )
 
-pub returns-in-Refused : goal.returns-in-Refused
-returns-in-Refused c = record {
+pub returns-in-Err : goal.returns-in-Err
+returns-in-Err c = record {
   gives = part_none c.args.file.now c.resolve.result c.resolve.ensures.answer
-      c.in-Refused.is;
+      c.in-Err.is;
   in_nodes = c.resolve.ensures.nodes;
   in_items = c.resolve.ensures.items;
 }
 
-pub returns-in-At : goal.returns-in-At
-returns-in-At c = record {
+pub returns-in-Ok : goal.returns-in-Ok
+returns-in-Ok c = record {
   gives = part_at c.args.file.now c.resolve.result c.resolve.ensures.answer
-      c.in-At.is;
+      c.in-Ok.is;
   in_nodes = c.resolve.ensures.nodes;
   in_items = c.resolve.ensures.items;
 }

@@ -7,8 +7,8 @@ use Rattle.room.proofs.put_bytes.Goals as goal
 pub returns-then-room_at-size : goal.returns-then-room_at-size
 returns-then-room_at-size c = counts-over _ c.on.ensures (omega (arith, c.room_at.ensures, c.if-room_at-size.true))
 
-pub store_bytes-requires : goal.store_bytes-requires
-store_bytes-requires c = omega (arith, c.room_at.ensures, c.if-room_at-size.false)
+pub store-requires : goal.store-requires
+store-requires c = omega (arith, c.room_at.ensures, c.if-room_at-size.false)
 
 pub returns : goal.returns
-returns c = counts-stored _ (omega (arith, c.room_at.ensures, c.if-room_at-size.false)) c.store_bytes.ensures
+returns c = counts-stored _ (omega (arith, c.room_at.ensures, c.if-room_at-size.false)) c.store.ensures

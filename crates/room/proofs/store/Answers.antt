@@ -1,13 +1,8 @@
--- `store` stores the words. The invariant: the first i words are stored.
+-- `store` stores the elements: the part of the list that was written is theirs.
 -- Assumes nothing.
-use Rattle.room.proofs.Storing.{none, more, all}
+use Rattle.std.proofs.Common.{arith}
+use Rattle.room.proofs.Storing.{stored}
 use Rattle.room.proofs.store.Goals as goal
 
-pub loop-i-init : goal.loop-i-init
-loop-i-init c = none _ _ _
-
-pub loop-i-preserved : goal.loop-i-preserved
-loop-i-preserved c = more _ _ _ _ _ c.loop-i-test.true c.loop-i.invariant
-
-pub returns : goal.returns
-returns c = all _ _ _ _ _ c.loop-i-test.false c.loop-i.invariant
+pub returns-then-size-gt0 : goal.returns-then-size-gt0
+returns-then-size-gt0 g c = stored _ _ c.args.at _ (omega (arith, c.requires, c.if-size-gt0.true)) c.copy_from_slice.ensures.after (omega arith)

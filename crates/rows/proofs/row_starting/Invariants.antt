@@ -11,7 +11,4 @@ abbrev pub decreases-loop-low : goal.decreases-loop-low
 decreases-loop-low l = l.high - l.low
 
 abbrev pub invariant-loop-i : goal.invariant-loop-i
-invariant-loop-i l = (l.tree ≤ l.i) × (l.i ≤ l.count) × NoneBefore l.nodes l.place.0 l.i
-
-abbrev pub decreases-loop-i : goal.decreases-loop-i
-decreases-loop-i l = l.count - l.i
+invariant-loop-i l = NoneBefore l.nodes l.place.0 l.i

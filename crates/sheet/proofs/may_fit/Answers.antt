@@ -10,12 +10,6 @@ use Rattle.sheet.proofs.may_fit.Goals as goal
 pub returns-then-size-to : goal.returns-then-size-to
 returns-then-size-to c = over-room (c.args.to + least c.args.items.now c.args.from c.args.end) c.args.size (omega (arith, c.if-size-to.true))
 
-pub loop-i-init : goal.loop-i-init
-loop-i-init c = (omega arith, omega (arith, c.if-size-to.false))
-
-pub item_at-requires : goal.item_at-requires
-item_at-requires c = omega (arith, c.requires.1)
-
 pub returns-then-left-least : goal.returns-then-left-least
 returns-then-left-least c = let one = least_on c.args.items.now c.loop-i.i c.args.end c.loop-i-test.true in
     let count = c.least_line-least.ensures ∙ ap least_line c.item_at.ensures in

@@ -10,15 +10,6 @@ use Rattle.sheet.proofs.put_group_lines.Goals as goal
 pub loop-i-init : goal.loop-i-init
 loop-i-init c = (omega arith, filling_start _ (omega arith) (groups-start c.args.file.now c.args.nodes.now c.args.items.now c.args.rows c.args.contents))
 
-pub node_at-row-requires : goal.node_at-row-requires
-node_at-row-requires c = omega (arith, c.requires.0)
-
-pub rows_end-end-requires : goal.rows_end-end-requires
-rows_end-end-requires c = c.loop-i.invariant.0
-
-pub put_item_lines-next-requires : goal.put_item_lines-next-requires
-put_item_lines-next-requires c = (omega arith, (omega (arith, c.requires.1.0), λ j l. c.requires.1.1 j (omega arith)))
-
 pub loop-i-preserved : goal.loop-i-preserved
 loop-i-preserved c = let one = groups-on c.args.file.now c.args.nodes.now c.args.items.now c.args.rows c.args.contents c.loop-i.i c.loop-i.first c.rows_end-end.result
     c.loop-i-test.true c.loop-i.invariant.0

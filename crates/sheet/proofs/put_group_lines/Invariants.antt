@@ -10,6 +10,3 @@ use Rattle.sheet.proofs.put_group_lines.Given as goal
 abbrev pub invariant-loop-i : goal.invariant-loop-i
 invariant-loop-i l = (l.first ≤ l.contents) × Filling l.initial.out l.out l.initial.next l.next (group_lines l.file 0 (nodes_in l.rows l.nodes) (items_in l.contents l.items))
     (group_lines l.file l.i (nodes_from l.i (l.rows - l.i) l.nodes) (items_from l.first (l.contents - l.first) l.items))
-
-abbrev pub decreases-loop-i : goal.decreases-loop-i
-decreases-loop-i l = l.rows - l.i

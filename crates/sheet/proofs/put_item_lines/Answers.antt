@@ -11,9 +11,6 @@ use Rattle.sheet.proofs.Lines.{items-on, items-end}
 use Rattle.sheet.proofs.Least.{lines-least}
 use Rattle.sheet.proofs.put_item_lines.Goals as goal
 
-pub may_fit-requires : goal.may_fit-requires
-may_fit-requires c = (c.requires.0, c.requires.1.0)
-
 pub returns-then-not-may_fit : goal.returns-then-not-may_fit
 returns-then-not-may_fit c = let lines = items_from c.args.from (c.args.end - c.args.from) c.args.items.now in
     let least = lines-least c.args.items.now c.args.file.now (λ i. omega (arith, c.shared_slice_known-1.given i)) c.args.from (c.args.end - c.args.from)
@@ -23,9 +20,6 @@ returns-then-not-may_fit c = let lines = items_from c.args.from (c.args.end - c.
 
 pub loop-i-init : goal.loop-i-init
 loop-i-init c = (c.requires.0, filling_start _ (omega arith) refl)
-
-pub put_visible_line-next-requires : goal.put_visible_line-next-requires
-put_visible_line-next-requires c = (omega (arith, c.requires.1.0), c.requires.1.1 _ c.loop-i-test.true)
 
 pub returns-then-out-next : goal.returns-then-out-next
 returns-then-out-next c = let one = filling_on (items-on _ _ _ _ c.loop-i-test.true) c.loop-i.invariant.1 (fills-counts c.put_visible_line-next.ensures) in

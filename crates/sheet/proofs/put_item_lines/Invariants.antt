@@ -9,6 +9,3 @@ use Rattle.sheet.proofs.put_item_lines.Given as goal
 abbrev pub invariant-loop-i : goal.invariant-loop-i
 invariant-loop-i l = (l.i ≤ l.end) × Filling l.initial.out l.out l.initial.next l.next
     (item_lines l.file (items_from l.from (l.end - l.from) l.items)) (item_lines l.file (items_from l.i (l.end - l.i) l.items))
-
-abbrev pub decreases-loop-i : goal.decreases-loop-i
-decreases-loop-i l = l.end - l.i

@@ -9,9 +9,6 @@ use Rattle.sheet.proofs.put_node_lines.Goals as goal
 pub loop-i-init : goal.loop-i-init
 loop-i-init c = (omega arith, filling_start _ (omega arith) (sym (nodes-start _ _)))
 
-pub node_at-requires : goal.node_at-requires
-node_at-requires c = omega (arith, c.requires)
-
 pub loop-i-preserved : goal.loop-i-preserved
 loop-i-preserved c = (omega arith, filling_on (nodes-on _ _ _ c.loop-i-test.true c.node_at.ensures) c.loop-i.invariant.1 c.put_node_line-next.ensures)
 

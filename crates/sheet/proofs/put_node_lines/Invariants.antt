@@ -8,6 +8,3 @@ use Rattle.sheet.proofs.put_node_lines.Given as goal
 
 abbrev pub invariant-loop-i : goal.invariant-loop-i
 invariant-loop-i l = (l.i ≤ l.count) × Filling l.initial.out l.out l.initial.next l.next (node_lines 0 (nodes_in l.count l.nodes)) (node_lines l.i (nodes_from l.i (l.count - l.i) l.nodes))
-
-abbrev pub decreases-loop-i : goal.decreases-loop-i
-decreases-loop-i l = l.count - l.i

@@ -1,13 +1,9 @@
 -- `put_sheet` puts all lines of an edition.
 -- Assumes nothing.
-use native.Mathlib.Omega.{arith}
 use Rattle.room.proofs.Counting.{counts-then}
 use Rattle.sheet.proofs.Filling.{fills-counts, fills-then, fills-as}
 use Rattle.sheet.proofs.Lines.{put_second, put_first}
 use Rattle.sheet.proofs.put_sheet.Goals as goal
-
-pub put_group_lines-requires : goal.put_group_lines-requires
-put_group_lines-requires c = c.requires
 
 pub returns-then-second : goal.returns-then-second
 returns-then-second c = let head = fills-counts (counts-then c.put_bytes-word.ensures
@@ -15,12 +11,6 @@ returns-then-second c = let head = fills-counts (counts-then c.put_bytes-word.en
     fills-as (put_second c.args.version c.args.rows c.args.contents c.args.file.now c.args.nodes.now c.args.items.now
     c.if-second.true)
     (fills-then head c.put_group_lines.ensures)
-
-pub put_node_lines-lines-requires : goal.put_node_lines-lines-requires
-put_node_lines-lines-requires c = c.requires.0
-
-pub put_item_lines-requires : goal.put_item_lines-requires
-put_item_lines-requires c = (omega arith, c.requires.1)
 
 pub returns : goal.returns
 returns c = let head = fills-counts (counts-then c.put_bytes-word-2.ensures c.put_head_fields-head-2.ensures) in

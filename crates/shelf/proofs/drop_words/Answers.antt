@@ -1,19 +1,17 @@
--- `drop_words` asks for the card, then clears card and part.
+-- `drop_words` lends the cards, in an array, to `drop`, and stores what is left of them.
 -- Assumes nothing.
-use native.Mathlib.Omega.{arith}
+use mathlib.Core.Path.{refl}
 use Rattle.shelf.specs.Shelf.{label}
-use Rattle.shelf.proofs.Ways.{sheet_card, sheet_part, drop-refused, drop-done}
+use Rattle.shelf.specs.Runs.{dropping}
+use Rattle.shelf.specs.Words.{shelf_of}
+use Rattle.shelf.proofs.Rows.{changed, drop_keeps, many-changed}
 use Rattle.shelf.proofs.drop_words.Goals as goal
 
-pub store_card-requires : goal.store_card-requires
-store_card-requires c = sheet_card c.args.words.now c.args.text.now (label c.args.desk c.args.call c.args.boat) c.find_sheet-place.ensures c.in-At.is
+pub returns-then-n-gt-MOST_CARDS : goal.returns-then-n-gt-MOST_CARDS
+returns-then-n-gt-MOST_CARDS c = let all = many-changed c.args.words.now c.args.text.now c.if-n-gt-MOST_CARDS.true (dropping (label c.args.desk c.args.call c.args.boat)) in
+    record { result_value = all.0; words_value = all.1; text_value = all.2 }
 
-pub store_part-requires : goal.store_part-requires
-store_part-requires c = (omega (arith, sheet_part c.args.words.now c.args.text.now (label c.args.desk c.args.call c.args.boat) c.find_sheet-place.ensures c.in-At.is), omega arith)
-
-pub returns-in-Refused : goal.returns-in-Refused
-returns-in-Refused c = let all = (drop-refused c.args.words.now c.args.text.now (label c.args.desk c.args.call c.args.boat) c.find_sheet-place.ensures c.in-Refused.is) in record { result_value = all.0; words_value = all.1.0; text_value = all.1.1 }
-
-pub returns-in-At : goal.returns-in-At
-returns-in-At c = let all = (drop-done c.args.words.now c.args.text.now (label c.args.desk c.args.call c.args.boat) c.find_sheet-place.ensures c.in-At.is
-    c.store_card.ensures c.store_part.ensures) in record { result_value = all.0; words_value = all.1.0; text_value = all.1.1 }
+pub returns : goal.returns
+returns c = let all = changed c.args.words.now c.args.text.now refl c.cards_in-cards.ensures (dropping (label c.args.desk c.args.call c.args.boat))
+    (drop_keeps (label c.args.desk c.args.call c.args.boat) (shelf_of c.args.words.now c.args.text.now)) c.drop-answer.ensures c.store_cards.ensures in
+    record { result_value = all.0; words_value = all.1; text_value = all.2 }

@@ -5,4 +5,4 @@ use Rattle.shelf.proofs.Parts.{filled}
 use Rattle.shelf.proofs.fill.Goals as goal
 
 pub returns : goal.returns
-returns c = c.clear_bytes_from.ensures ∙ filled c.args.out.now c.args.sheet.now c.requires (cc)
+returns c = c.fill_from.ensures ∙ filled c.args.out.now c.args.sheet.now c.requires (cc)

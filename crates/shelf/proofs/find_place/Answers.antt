@@ -2,7 +2,6 @@
 -- Assumes nothing.
 use mathlib.Core.Path.{sym, ◌∙◌}
 use native.Mathlib.Omega.{arith}
-use Rattle.shelf.proofs.Words.{count}
 use Rattle.shelf.proofs.Judging.{place-damaged, place-zero, place-there, place-long, place_at, place-full}
 use Rattle.shelf.proofs.find_place.Goals as goal
 
@@ -14,20 +13,18 @@ returns-then-call-eq0 c = place-zero _ _ _ (sym c.is_damaged.ensures ∙ c.if-is
 
 pub returns-then-at-n : goal.returns-then-at-n
 returns-then-at-n c = place-there _ _ _ (sym c.is_damaged.ensures ∙ c.if-is_damaged.false) c.if-call-eq0.false _ c.find_from-at.ensures
-    (omega (arith, count c.args.words.now))
+    (omega arith)
 
 pub returns-then-size-part : goal.returns-then-size-part
 returns-then-size-part c = place-long _ _ _ (sym c.is_damaged.ensures ∙ c.if-is_damaged.false) c.if-call-eq0.false _
-    c.find_from-at.ensures (omega (arith, count c.args.words.now)) c.if-size-part.true
+    c.find_from-at.ensures (omega arith) c.if-size-part.true
 
 pub returns-then-i-n : goal.returns-then-i-n
-returns-then-i-n c = let k = count c.args.words.now in
-    place_at _ _ _ (sym c.is_damaged.ensures ∙ c.if-is_damaged.false) c.if-call-eq0.false _
-    c.find_from-at.ensures (omega (arith, k))
-    c.if-size-part.false c.find_free-i.ensures (omega (arith, k))
+returns-then-i-n c = place_at _ _ _ (sym c.is_damaged.ensures ∙ c.if-is_damaged.false) c.if-call-eq0.false _
+    c.find_from-at.ensures (omega arith)
+    c.if-size-part.false c.find_free-i.ensures (omega arith)
 
 pub returns : goal.returns
-returns c = let k = count c.args.words.now in
-    place-full _ _ _ (sym c.is_damaged.ensures ∙ c.if-is_damaged.false) c.if-call-eq0.false _
-    c.find_from-at.ensures (omega (arith, k))
-    c.if-size-part.false c.find_free-i.ensures (omega (arith, k))
+returns c = place-full _ _ _ (sym c.is_damaged.ensures ∙ c.if-is_damaged.false) c.if-call-eq0.false _
+    c.find_from-at.ensures (omega arith)
+    c.if-size-part.false c.find_free-i.ensures (omega arith)

@@ -2,7 +2,6 @@
 -- Assumes nothing.
 use mathlib.Core.Path.{sym, ◌∙◌}
 use native.Mathlib.Omega.{arith}
-use Rattle.shelf.proofs.Words.{count}
 use Rattle.shelf.proofs.Judging.{found-damaged, found-zero, found_at, found_none}
 use Rattle.shelf.proofs.find_sheet.Goals as goal
 
@@ -12,10 +11,10 @@ returns-then-is_damaged c = found-damaged _ _ _ (sym c.is_damaged.ensures ∙ c.
 pub returns-then-call-eq0 : goal.returns-then-call-eq0
 returns-then-call-eq0 c = found-zero _ _ _ (sym c.is_damaged.ensures ∙ c.if-is_damaged.false) c.if-call-eq0.true
 
-pub returns-then-i-words : goal.returns-then-i-words
-returns-then-i-words c = found_at _ _ _ (sym c.is_damaged.ensures ∙ c.if-is_damaged.false) c.if-call-eq0.false c.find_from-i.ensures
-    (omega (arith, count c.args.words.now))
+pub returns-then-i-cards : goal.returns-then-i-cards
+returns-then-i-cards c = found_at _ _ _ (sym c.is_damaged.ensures ∙ c.if-is_damaged.false) c.if-call-eq0.false c.find_from-i.ensures
+    (omega arith)
 
 pub returns : goal.returns
 returns c = found_none _ _ _ (sym c.is_damaged.ensures ∙ c.if-is_damaged.false) c.if-call-eq0.false c.find_from-i.ensures
-    (omega (arith, count c.args.words.now))
+    (omega arith)

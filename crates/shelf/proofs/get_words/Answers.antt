@@ -1,30 +1,16 @@
--- `get_words` asks for the card, then gives its sheet.
+-- `get_words` lends the cards, in an array, to `get`.
 -- Assumes nothing.
-use native.Mathlib.Omega.{arith}
+use mathlib.Core.Path.{refl}
 use lib.ListN.{length}
 use Rattle.shelf.specs.Shelf.{label}
-use Rattle.shelf.specs.Runs.{answer}
-use Rattle.shelf.proofs.Parts.{part_in}
-use Rattle.shelf.proofs.Ways.{sheet_card, sheet_part, sheet_in, get_refused, get-given, get-done}
+use Rattle.shelf.specs.Runs.{getting}
+use Rattle.shelf.proofs.Rows.{got, many-got}
 use Rattle.shelf.proofs.get_words.Goals as goal
 
-pub card_at-c-requires : goal.card_at-c-requires
-card_at-c-requires c = sheet_card c.args.words.now c.args.text.now (label c.args.desk c.args.call c.args.boat) c.find_sheet-place.ensures c.in-At.is
+pub returns-then-n-gt-MOST_CARDS : goal.returns-then-n-gt-MOST_CARDS
+returns-then-n-gt-MOST_CARDS c = let all = many-got c.args.words.now c.args.text.now c.if-n-gt-MOST_CARDS.true (getting (label c.args.desk c.args.call c.args.boat) (length c.args.out.now)) (length c.args.out.now) (c.fill.ensures.after (λ _ e. e)) in
+    record { result_value = all.0; out_value = all.1 }
 
-pub overflow_mul-i : goal.overflow_mul-i
-overflow_mul-i c = let i = sheet_part c.args.words.now c.args.text.now (label c.args.desk c.args.call c.args.boat) c.find_sheet-place.ensures c.in-At.is in
-    record { fits = omega (arith, part_in (length c.args.text.now) c.in-At.i i) }
-
-pub give-requires : goal.give-requires
-give-requires c = sheet_in c.args.words.now c.args.text.now (label c.args.desk c.args.call c.args.boat) c.find_sheet-place.ensures c.in-At.is c.card_at-c.ensures
-
-pub returns-in-Refused : goal.returns-in-Refused
-returns-in-Refused c = let all = (get_refused c.args.words.now c.args.text.now (label c.args.desk c.args.call c.args.boat) c.find_sheet-place.ensures
-    (length c.args.out.now) c.in-Refused.is c.clear_bytes.ensures) in record { result_value = all.0; out_value = all.1 }
-
-pub returns-in-At : goal.returns-in-At
-unfolding answer
-returns-in-At c = let all = (get-done (length c.args.out.now)
-    (get-given c.args.words.now c.args.text.now (label c.args.desk c.args.call c.args.boat) c.find_sheet-place.ensures
-    c.in-At.is c.card_at-c.ensures)
-    c.give.ensures) in record { result_value = all.0; out_value = all.1 }
+pub returns : goal.returns
+returns c = let all = got c.args.words.now c.args.text.now refl c.cards_in-cards.ensures (label c.args.desk c.args.call c.args.boat) c.args.out.now c.get.ensures in
+    record { result_value = all.0; out_value = all.1 }

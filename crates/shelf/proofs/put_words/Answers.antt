@@ -1,22 +1,17 @@
--- `put_words` asks for the card, then stores card and sheet.
+-- `put_words` lends the cards, in an array, to `put`, and stores what is left of them.
 -- Assumes nothing.
+use mathlib.Core.Path.{refl}
 use Rattle.shelf.specs.Shelf.{label}
-use Rattle.shelf.proofs.Ways.{place-card, place-part, place_at, put_refused, put-done}
+use Rattle.shelf.specs.Runs.{putting}
+use Rattle.shelf.specs.Words.{shelf_of}
+use Rattle.shelf.proofs.Rows.{changed, put_keeps, many-changed}
 use Rattle.shelf.proofs.put_words.Goals as goal
 
-pub store_card-requires : goal.store_card-requires
-store_card-requires c = place-card c.args.words.now c.args.text.now (label c.args.desk c.args.call c.args.boat) c.args.sheet.now
-    c.find_place-place.ensures c.in-At.is
+pub returns-then-n-gt-MOST_CARDS : goal.returns-then-n-gt-MOST_CARDS
+returns-then-n-gt-MOST_CARDS c = let all = many-changed c.args.words.now c.args.text.now c.if-n-gt-MOST_CARDS.true (putting (label c.args.desk c.args.call c.args.boat) c.args.sheet.now) in
+    record { result_value = all.0; words_value = all.1; text_value = all.2 }
 
-pub store_part-requires : goal.store_part-requires
-store_part-requires c = let l = label c.args.desk c.args.call c.args.boat in (
-  place-part c.args.words.now c.args.text.now l c.args.sheet.now c.find_place-place.ensures c.in-At.is,
-  (place_at c.args.words.now c.args.text.now l c.args.sheet.now c.find_place-place.ensures c.in-At.is).fits,
-)
-
-pub returns-in-Refused : goal.returns-in-Refused
-returns-in-Refused c = let all = (put_refused c.args.words.now c.args.text.now (label c.args.desk c.args.call c.args.boat) c.args.sheet.now c.find_place-place.ensures c.in-Refused.is) in record { result_value = all.0; words_value = all.1.0; text_value = all.1.1 }
-
-pub returns-in-At : goal.returns-in-At
-returns-in-At c = let all = (put-done c.args.words.now c.args.text.now (label c.args.desk c.args.call c.args.boat) c.args.sheet.now c.find_place-place.ensures c.in-At.is
-    c.store_card.ensures c.store_part.ensures) in record { result_value = all.0; words_value = all.1.0; text_value = all.1.1 }
+pub returns : goal.returns
+returns c = let all = changed c.args.words.now c.args.text.now refl c.cards_in-cards.ensures (putting (label c.args.desk c.args.call c.args.boat) c.args.sheet.now)
+    (put_keeps (label c.args.desk c.args.call c.args.boat) c.args.sheet.now (shelf_of c.args.words.now c.args.text.now)) c.put-answer.ensures c.store_cards.ensures in
+    record { result_value = all.0; words_value = all.1; text_value = all.2 }

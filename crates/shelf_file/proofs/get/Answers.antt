@@ -8,7 +8,7 @@ use Rattle.shelf_file.proofs.get.Goals as goal
 
 pub returns-then-file-ne-SIZE : goal.returns-then-file-ne-SIZE
 returns-then-file-ne-SIZE c = let all = (other-got (getting (label c.args.desk c.args.call c.args.boat) (length c.args.out.now)) c.args.file.now c.if-file-ne-SIZE.true (length c.args.out.now)
-    c.clear_bytes.ensures) in record { result_value = all.0; out_value = all.1 }
+    (c.fill.ensures.after (λ _ e. e))) in record { result_value = all.0; out_value = all.1 }
 
 pub returns : goal.returns
 returns c = let all = (got (getting (label c.args.desk c.args.call c.args.boat) (length c.args.out.now)) c.args.file.now c.if-file-ne-SIZE.false (length c.args.out.now)

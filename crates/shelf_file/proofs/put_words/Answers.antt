@@ -1,4 +1,4 @@
--- `put_words` puts the words one by one. The invariant: of the whole, the words from i on are still to be put.
+-- `put_words` puts the words one by one.
 -- Assumes nothing.
 use mathlib.Core.Path.{refl}
 use native.Mathlib.Omega.{arith}
@@ -6,11 +6,11 @@ use Rattle.room.proofs.Counting.{going_start, going_on, going_end}
 use Rattle.shelf_file.proofs.Bytes.{eights-next, eights-none}
 use Rattle.shelf_file.proofs.put_words.Goals as goal
 
-pub loop-i-init : goal.loop-i-init
-loop-i-init c = going_start _ (omega arith) refl
+pub loop-word-init : goal.loop-word-init
+loop-word-init c = going_start _ (omega arith) refl
 
-pub loop-i-preserved : goal.loop-i-preserved
-loop-i-preserved c = going_on (eights-next _ _ c.loop-i-test.true) c.loop-i.invariant c.put_eight-next.ensures
+pub loop-word-preserved : goal.loop-word-preserved
+loop-word-preserved c = going_on (eights-next _ _ c.loop-word-test.true) c.loop-word.invariant c.put_eight-next.ensures
 
 pub returns : goal.returns
-returns c = going_end (eights-none _ _ c.loop-i-test.false) c.loop-i.invariant
+returns c = going_end (eights-none _ _ c.loop-word-test.false) c.loop-word.invariant

@@ -1,13 +1,9 @@
--- `put_words` puts the words one by one. The invariant: of the whole, the words from i on are still to be put.
+-- Of the whole, the words from some word on are still to be put.
 -- Assumes nothing.
-use Prim.Native.Nat.{◌-◌}
-use lib.ListN.{length, drop}
+use lib.ListN.{drop}
 use Rattle.room.proofs.Counting.{Going}
 use Rattle.shelf_file.specs.Layout.{eights}
 use Rattle.shelf_file.proofs.put_words.Given as goal
 
-abbrev pub invariant-loop-i : goal.invariant-loop-i
-invariant-loop-i l = Going l.initial.out l.out l.initial.next l.next (eights l.words) (eights (drop l.i l.words))
-
-abbrev pub decreases-loop-i : goal.decreases-loop-i
-decreases-loop-i l = length l.words - l.i
+abbrev pub invariant-loop-word : goal.invariant-loop-word
+invariant-loop-word l = Going l.initial.out l.out l.initial.next l.next (eights l.words) (eights (drop l.word-index l.words))

@@ -1,12 +1,8 @@
--- `words_in` reads the words one by one. The invariant: the first i are stored.
+-- The first i words are read.
 -- Assumes nothing.
-use Prim.Native.Nat.{◌-◌}
-use Rattle.room.proofs.Storing.{Storing}
-use Rattle.shelf_file.specs.Layout.{words_from}
+use Rattle.std.proofs.Common.{◌≡◌, ℕ, ◌*◌, ◌<◌, length, get_or}
+use Rattle.shelf_file.specs.Layout.{word_at}
 use Rattle.shelf_file.proofs.words_in.Given as goal
 
 abbrev pub invariant-loop-i : goal.invariant-loop-i
-invariant-loop-i l = Storing l.initial.words 0 (words_from 64 l.file 0) l.i l.words
-
-abbrev pub decreases-loop-i : goal.decreases-loop-i
-decreases-loop-i l = 64 - l.i
+invariant-loop-i l = (length l.words ≡ 64) × ((k : ℕ) → k < l.i → get_or l.words k 0 ≡ word_at l.file (k * 8))

@@ -1,12 +1,8 @@
--- `decimal` reads digit after digit. The invariant: the value is that of the digits passed.
+-- What is left of the digits, after the value so far, spells what the word spells.
 -- Assumes nothing.
-use Prim.Native.Nat.{◌-◌, ◌≤◌, ◌<◌}
-use lib.ListN.{length}
-use Rattle.spelling.proofs.Laws.{Reading}
+use Rattle.std.proofs.Common.{◌≡◌, ◌<◌, ◌^◌, drop}
+use Rattle.spelling.specs.Spelling.{number_from}
 use Rattle.spelling.proofs.decimal.Given as goal
 
-abbrev pub invariant-loop-i : goal.invariant-loop-i
-invariant-loop-i l = (l.i ≤ length l.word) × (0 < length l.word) × Reading l.word l.value l.i
-
-abbrev pub decreases-loop-i : goal.decreases-loop-i
-decreases-loop-i l = length l.word - l.i
+abbrev pub invariant-loop-b : goal.invariant-loop-b
+invariant-loop-b l = (number_from 0 l.word ≡ number_from l.value (drop l.b-index l.word)) × (l.value < 2 ^ 64)

@@ -1,35 +1,28 @@
--- `status` looks at the word's length, its first nine bytes and its last.
+-- The byte behind `--status=` is the digit.
 -- Assumes nothing.
-use mathlib.Core.Path.{refl, sym, ap, ◌∙◌}
-use mathlib.Core.List.{List}
-use mathlib.Core.Bool.{false≢true}
-use Prim.Native.Nat.{ℕ}
-use lib.ListN.{length, take, get_or}
-use native.Mathlib.Omega.{arith}
+use Rattle.std.proofs.Common.{◌≡◌, ℕ, ◌≤◌, ◌<◌, List, [], ◌∷◌, ◌++◌, length, get_or, take, drop, refl, sym, ap, ap₂, ◌∙◌, arith, rules}
+use Rattle.std.proofs.lemmas.Slice.Eq.{bytes_eq-Decides}
+use lib.ListN.{take-append-drop}
 use mir.Syntax.{w32}
 use mir.Val.{SFits}
 use mir.ValLaws.{to_z-of_z}
 use borrow.Author.Rules.{rules}
-use Rattle.io.proofs.Counting.{prefix_len_of_le}
-use Rattle.spelling.specs.Spelling.{descriptor_of}
-use Rattle.spelling.proofs.Laws.{last_byte_lem}
+use Rattle.spelling.specs.Spelling.{descriptor_of, status_word, Names}
 use Rattle.spelling.proofs.status.Goals as goal
 
-pub returns-then-word-ne10 : goal.returns-then-word-ne10
-returns-then-word-ne10 c = record { named = λ d e. absurd (c.if-word-ne10.true (ap length e)); other = λ n. refl }
+one : (x : List ℕ) → 1 ≤ length x → length x < 2 → x ≡ get_or x 0 0 ∷ []
+one [] l m = absurd (omega arith)
+one (a ∷ []) l m = refl
+one (a ∷ b ∷ x) l m = absurd (omega arith)
 
-pub slice_bounds-same-end : goal.slice_bounds-same-end
-slice_bounds-same-end c = (prefix_len_of_le 9 c.args.word.now (omega (arith, c.if-word-ne10.false))).1
+by_digit : (word : List ℕ) (d : ℕ) → word ≡ status_word d → Names word (descriptor_of d)
+by_digit word d e = record { named = λ d' e'. ap (λ (l : List ℕ). descriptor_of (get_or l 9 0)) (sym e ∙ e'); other = λ n. absurd (n d e) }
 
-pub returns-then-not-same : goal.returns-then-not-same
-returns-then-not-same c = record {
-  named = λ d e. absurd (false≢true (sym c.if-not-same.true ∙ c.same.ensures.1 (ap (take 9) e)));
-  other = λ n. refl;
-}
-
-pub returns : goal.returns
-returns c = let fits : SFits w32 c.descriptor.result = search rules in
-    rw (to_z-of_z w32 c.descriptor.result fits) (record {
-      named = λ d e. c.descriptor.ensures ∙ ap (λ (l : List ℕ). descriptor_of (get_or l 9 0)) e;
-      other = λ n. absurd (n (get_or c.args.word.now 9 0) (last_byte_lem c.args.word.now _ c.if-word-ne10.false (c.same.ensures.0 c.if-not-same.false)));
-    })
+pub returns-in-Some-len1 : goal.returns-in-Some-len1
+returns-in-Some-len1 c =
+    let fits : SFits w32 c.descriptor.result = search rules in
+    let w = c.args.word.now in
+    let h = c.in-Some-len1.ensures.cases in
+    let front : take 9 w ≡ take 9 (status_word 0) = (bytes_eq-Decides _ _).0 h.0 in
+    let back : drop 9 w ≡ get_or c.in-Some-len1.field-0.now 0 0 ∷ [] = sym h.1 ∙ one _ c.in-Some-len1.len_at_least c.in-Some-len1.len_below in
+    rw (to_z-of_z w32 c.descriptor.result fits, c.descriptor.ensures) (by_digit w (get_or c.in-Some-len1.field-0.now 0 0) (sym (take-append-drop 9 w) ∙ ap₂ (λ (x y : List ℕ). x ++ y) front back))

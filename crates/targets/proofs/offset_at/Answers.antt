@@ -22,10 +22,10 @@ of-at-requires c = omega (
   c.requires,
 )
 
-pub returns-in-Refused : goal.returns-in-Refused
-returns-in-Refused c = offset_is _ _ _ c.requires.0 c.node_at-row.ensures _ _ c.of-at.ensures
-    (sym (was number_told (c.number.ensures reference_frame) c.in-Refused.is))
+pub returns-in-Err : goal.returns-in-Err
+returns-in-Err c = offset_is _ _ _ c.requires.0 c.node_at-row.ensures _ _ c.of-at.ensures
+    (sym (was number_told (c.number.ensures reference_frame) c.in-Err.is))
 
-pub returns-in-Is : goal.returns-in-Is
-returns-in-Is c = offset_is _ _ _ c.requires.0 c.node_at-row.ensures _ _ c.of-at.ensures
-    (sym (was number_told (c.number.ensures reference_frame) c.in-Is.is))
+pub returns-in-Ok : goal.returns-in-Ok
+returns-in-Ok c = offset_is _ _ _ c.requires.0 c.node_at-row.ensures _ _ c.of-at.ensures
+    (sym (was number_told (c.number.ensures reference_frame) c.in-Ok.is))

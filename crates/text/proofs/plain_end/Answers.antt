@@ -8,11 +8,5 @@ use Rattle.text.proofs.plain_end.Goals as goal
 pub loop-at-init : goal.loop-at-init
 loop-at-init c = (plain-none _ _, omega arith)
 
-pub returns-then-not-is_plain : goal.returns-then-not-is_plain
-returns-then-not-is_plain c = c.loop-at.invariant
-
 pub loop-at-preserved : goal.loop-at-preserved
 loop-at-preserved c = (plain-join _ c.loop-at.invariant.0 (plain-one _ _ (omega arith) (sym c.is_plain.ensures ∙ c.if-not-is_plain.false)), omega arith)
-
-pub returns : goal.returns
-returns c = c.loop-at.invariant

@@ -9,15 +9,6 @@ use Rattle.text.proofs.put_escaped.Goals as goal
 pub loop-at-init : goal.loop-at-init
 loop-at-init c = (omega arith, omega arith, going_start _ (omega arith) (put-start _ _ _ refl))
 
-pub overflow_sub-stop : goal.overflow_sub-stop
-overflow_sub-stop c = omega (arith, c.plain_end-stop.ensures.0.within)
-
-pub put_part-next-requires : goal.put_part-next-requires
-put_part-next-requires c = omega (arith, c.plain_end-stop.ensures.0.within, c.plain_end-stop.ensures.1)
-
-pub loop-at-smaller-then-is_plain : goal.loop-at-smaller-then-is_plain
-loop-at-smaller-then-is_plain c = omega (arith, c.plain_end-stop.ensures.0.within, c.plain_end-stop.ensures.1)
-
 pub loop-at-preserved-then-is_plain : goal.loop-at-preserved-then-is_plain
 loop-at-preserved-then-is_plain c = (
   c.plain_end-stop.ensures.1,
@@ -33,9 +24,6 @@ put_hex-one-requires c = c.hex_digits-hex.ensures
 
 pub put_hexes-run-requires : goal.put_hexes-run-requires
 put_hexes-run-requires c = (c.hex_digits-hex.ensures, omega arith, omega arith)
-
-pub loop-at-smaller : goal.loop-at-smaller
-loop-at-smaller c = omega (arith, c.put_hexes-run.ensures.0, c.put_hexes-run.ensures.1)
 
 pub loop-at-preserved : goal.loop-at-preserved
 loop-at-preserved c = let one = going_on

@@ -1,7 +1,7 @@
 -- `put_hex` puts a byte as `hexed` writes it.
 -- Assumes nothing.
 use Prim.Native.Nat.{◌/◌, ◌%◌}
-use lib.ListN.{length-set, get_or}
+use lib.ListN.{get_or}
 use Rattle.room.proofs.Counting.{counts-as, counts-over, counts-stored}
 use Rattle.text.proofs.Escapes.{hexed-is, stored-three}
 use native.Mathlib.Omega.{arith}
@@ -9,12 +9,6 @@ use Rattle.text.proofs.put_hex.Goals as goal
 
 pub returns-then-room_at-to : goal.returns-then-room_at-to
 returns-then-room_at-to c = counts-as (hexed-is c.args.byte c.requires) (counts-over _ c.on.ensures (omega (arith, c.room_at.ensures, c.if-room_at-to.true)))
-
-pub bounds-out-to-2 : goal.bounds-out-to-2
-bounds-out-to-2 c = simp length-set (omega (arith, c.room_at.ensures, c.if-room_at-to.false))
-
-pub bounds-out-to-3 : goal.bounds-out-to-3
-bounds-out-to-3 c = simp length-set (omega (arith, c.room_at.ensures, c.if-room_at-to.false))
 
 pub returns : goal.returns
 returns c = counts-as (hexed-is c.args.byte c.requires)

@@ -9,12 +9,6 @@ use Rattle.text.proofs.put_hexes.Goals as goal
 pub loop-at-init : goal.loop-at-init
 loop-at-init c = (omega arith, omega arith, counts-as (sym (escaped-none _ _)) (counts-none _ (omega arith)))
 
-pub returns-then-is_plain : goal.returns-then-is_plain
-returns-then-is_plain c = c.loop-at.invariant
-
-pub put_hex-next-requires : goal.put_hex-next-requires
-put_hex-next-requires c = c.requires.0
-
 pub loop-at-preserved : goal.loop-at-preserved
 loop-at-preserved c = (
   omega arith,
@@ -22,6 +16,3 @@ loop-at-preserved c = (
   counts-as (hexed-more _ _ _ c.loop-at.invariant.0 (omega arith) (sym c.is_plain.ensures ∙ c.if-is_plain.false))
       (counts-then c.loop-at.invariant.2 c.put_hex-next.ensures),
 )
-
-pub returns : goal.returns
-returns c = c.loop-at.invariant

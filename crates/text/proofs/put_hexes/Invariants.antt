@@ -7,6 +7,3 @@ use Rattle.text.proofs.put_hexes.Given as goal
 
 abbrev pub invariant-loop-at : goal.invariant-loop-at
 invariant-loop-at l = (l.from ≤ l.at) × (l.at ≤ l.end) × Counts l.initial.out l.out l.to (escaped_part l.file l.from (l.at - l.from)) l.next
-
-abbrev pub decreases-loop-at : goal.decreases-loop-at
-decreases-loop-at l = l.end - l.at

@@ -1,9 +1,10 @@
--- `put_lows` puts the low bytes of units where there is room for all of them. The invariant: the first i are stored.
+-- `put_lows` puts the low bytes of units where there is room for all of them.
 -- Assumes nothing.
+use mathlib.Core.Path.{◌≡◌, refl, ap, ◌∙◌}
 use Rattle.room.proofs.Counting.{counts-over, counts-stored}
-use Rattle.room.proofs.Storing.{none, more, all}
+use lib.Seq.{sets}
 use Rattle.text.specs.Inside.{lows}
-use Rattle.text.proofs.LowBytes.{lows-length, lows-at}
+use Rattle.text.proofs.LowBytes.{lows-length, lows_stored}
 use native.Mathlib.Omega.{arith}
 use Rattle.text.proofs.put_lows.Goals as goal
 
@@ -12,14 +13,13 @@ returns-then-room_at-size c = let long = lows-length c.args.units.now c.args.fro
     counts-over _ (omega (arith, long, c.on.ensures)) (omega (arith, long, c.room_at.ensures, c.if-room_at-size.true))
 
 pub loop-i-init : goal.loop-i-init
-loop-i-init c = none _ _ _
+unfolding lows
+loop-i-init c = refl
 
 pub loop-i-preserved : goal.loop-i-preserved
-loop-i-preserved c = let long = lows-length c.args.units.now c.args.from c.args.size in
-    rw (lows-at c.args.units.now c.args.from c.args.size c.loop-i.i c.loop-i-test.true) at
-    (more c.args.out.now c.args.to (lows c.args.units.now c.args.from c.args.size) c.loop-i.i c.loop-i.out (omega (arith, long, c.loop-i-test.true)) c.loop-i.invariant)
+loop-i-preserved c = lows_stored c.args.units.now c.args.from c.loop-i.i c.args.out.now c.args.to c.loop-i.invariant
 
 pub returns : goal.returns
 returns c = let long = lows-length c.args.units.now c.args.from c.args.size in
     counts-stored _ (omega (arith, long, c.room_at.ensures, c.if-room_at-size.false))
-    (all _ _ _ _ _ (omega (arith, long, c.loop-i-test.false)) c.loop-i.invariant)
+    (c.loop-i.invariant ∙ ap (λ n. sets c.args.out.now c.args.to (lows c.args.units.now c.args.from n)) (let e : c.loop-i.i ≡ c.args.size = omega arith in e))

@@ -1,12 +1,9 @@
--- `put_lows` puts the low bytes of units where there is room for all of them. The invariant: the first i are stored.
+-- The low bytes of the first i units are stored.
 -- Assumes nothing.
-use Prim.Native.Nat.{◌-◌}
-use Rattle.room.proofs.Storing.{Storing}
+use mathlib.Core.Path.{◌≡◌}
+use lib.Seq.{sets}
 use Rattle.text.specs.Inside.{lows}
 use Rattle.text.proofs.put_lows.Given as goal
 
 abbrev pub invariant-loop-i : goal.invariant-loop-i
-invariant-loop-i l = Storing l.initial.out l.to (lows l.units l.from l.size) l.i l.out
-
-abbrev pub decreases-loop-i : goal.decreases-loop-i
-decreases-loop-i l = l.size - l.i
+invariant-loop-i l = l.out ≡ sets l.initial.out l.to (lows l.units l.from l.i)

@@ -13,21 +13,9 @@ use Rattle.text.proofs.put_shown.Goals as goal
 pub loop-at-init : goal.loop-at-init
 loop-at-init c = conv_start c.args.units.now _ _ (omega arith) c.after_mark-at.ensures.upper_bound (shown-start c.args.units.now _ c.after_mark-at.ensures.units_value)
 
-pub returns-in-Bad : goal.returns-in-Bad
-returns-in-Bad c = shown-never (to_utf8 c.args.units.now) c.requires
-    (conv_bad c.loop-at.invariant c.loop-at-test.true (sym (ap char_told c.in-Bad.is) ∙ c.char16.ensures))
-
-pub put_lows-next-requires : goal.put_lows-next-requires
-put_lows-next-requires c = c.letters_with-n.ensures.inside
-
-pub overflow_mul-at : goal.overflow_mul-at
-overflow_mul-at c = omega (arith, c.letters_with-n.ensures.inside)
-
-pub overflow_add-at : goal.overflow_add-at
-overflow_add-at c = omega (arith, c.letters_with-n.ensures.inside)
-
-pub loop-at-smaller-then-n-gt0 : goal.loop-at-smaller-then-n-gt0
-loop-at-smaller-then-n-gt0 c = omega (arith, c.if-n-gt0.true, c.letters_with-n.ensures.inside)
+pub returns-in-None : goal.returns-in-None
+returns-in-None c = shown-never (to_utf8 c.args.units.now) c.requires
+    (conv_bad c.loop-at.invariant c.loop-at-test.true (sym (ap char_told c.in-None.is) ∙ c.char16.ensures))
 
 pub loop-at-preserved-then-n-gt0 : goal.loop-at-preserved-then-n-gt0
 loop-at-preserved-then-n-gt0 c = conv_letters c.args.units.now (λ i. omega (arith, c.shared_slice_known-1.given i)) _
@@ -35,19 +23,19 @@ loop-at-preserved-then-n-gt0 c = conv_letters c.args.units.now (λ i. omega (ari
 
 pub put_shown_char-next-requires : goal.put_shown_char-next-requires
 put_shown_char-next-requires c = (let w = char-in form16 c.args.units.now (λ i. omega (arith, c.shared_slice_known-1.given i)) _
-    (sym (ap char_told c.in-Is.is) ∙ c.char16.ensures) c.loop-at.invariant.within in w.0.most)
+    (sym (ap char_told c.in-Some.is) ∙ c.char16.ensures) c.loop-at.invariant.within in w.0.most)
 
 pub overflow_add-at-else-n-gt0 : goal.overflow_add-at-else-n-gt0
 overflow_add-at-else-n-gt0 c = (let w = char-in form16 c.args.units.now (λ i. omega (arith, c.shared_slice_known-1.given i)) _
-    (sym (ap char_told c.in-Is.is) ∙ c.char16.ensures) c.loop-at.invariant.within in omega (arith, w.2))
+    (sym (ap char_told c.in-Some.is) ∙ c.char16.ensures) c.loop-at.invariant.within in omega (arith, w.2))
 
 pub loop-at-smaller : goal.loop-at-smaller
 loop-at-smaller c = (let w = char-in form16 c.args.units.now (λ i. omega (arith, c.shared_slice_known-1.given i)) _
-    (sym (ap char_told c.in-Is.is) ∙ c.char16.ensures) c.loop-at.invariant.within in omega (arith, w.1, w.2))
+    (sym (ap char_told c.in-Some.is) ∙ c.char16.ensures) c.loop-at.invariant.within in omega (arith, w.1, w.2))
 
 pub loop-at-preserved : goal.loop-at-preserved
 loop-at-preserved c = conv_on form16 c.args.units.now (λ i. omega (arith, c.shared_slice_known-1.given i)) _
-    (sym (ap char_told c.in-Is.is) ∙ c.char16.ensures) c.loop-at-test.true c.loop-at.invariant
+    (sym (ap char_told c.in-Some.is) ∙ c.char16.ensures) c.loop-at-test.true c.loop-at.invariant
     c.put_shown_char-next.ensures
 
 pub returns : goal.returns

@@ -1,14 +1,11 @@
 -- `put_unicode` puts UTF-16 converted where it converts, and escaped where not.
 -- Assumes nothing.
-use mathlib.Core.Path.{refl, sym, ◌∙◌}
+use mathlib.Core.Path.{refl}
 use Rattle.room.proofs.Counting.{counts-as, lent-part}
 use Rattle.text.proofs.Shown.{unicode-good, unicode-bad}
 use Rattle.text.proofs.LowBytes.{lent_length, letters_text}
 use native.Mathlib.Omega.{arith}
 use Rattle.text.proofs.put_unicode.Goals as goal
-
-pub letters-n-requires : goal.letters-n-requires
-letters-n-requires c = c.after_mark-mark.ensures.upper_bound
 
 pub overflow_mul-n : goal.overflow_mul-n
 overflow_mul-n c = let long = lent_length c.args.file.now c.args.from c.args.size c.requires (lent-part c.args.file.now c.args.from c.args.size refl) in
@@ -18,16 +15,10 @@ pub overflow_add-mark : goal.overflow_add-mark
 overflow_add-mark c = let long = lent_length c.args.file.now c.args.from c.args.size c.requires (lent-part c.args.file.now c.args.from c.args.size refl) in
     omega (arith, long, c.letters-n.ensures.inside)
 
-pub put_lows-requires : goal.put_lows-requires
-put_lows-requires c = c.letters-n.ensures.inside
-
 pub returns-then-mark-n : goal.returns-then-mark-n
 returns-then-mark-n c = letters_text c.args.file.now c.args.from c.args.size c.requires (lent-part c.args.file.now c.args.from c.args.size refl)
     (λ i. omega (arith, c.shared_slice_known-1.given i)) c.after_mark-mark.ensures.units_value c.after_mark-mark.ensures.upper_bound
     c.letters-n.ensures c.if-mark-n.true (omega arith) c.put_lows.ensures
-
-pub put_shown-requires : goal.put_shown-requires
-put_shown-requires c = sym c.converts.ensures ∙ c.if-converts.true
 
 pub returns-then-converts : goal.returns-then-converts
 returns-then-converts c = counts-as (unicode-good c.args.file.now c.args.from c.args.size

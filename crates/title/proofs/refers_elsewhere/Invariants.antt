@@ -1,11 +1,7 @@
 -- `refers_elsewhere` looks at row after row. The invariant: no row so far has reference 2 or 3.
 -- Assumes nothing.
-use Prim.Native.Nat.{◌-◌}
 use Rattle.title.proofs.Refusals.{Looking}
 use Rattle.title.proofs.refers_elsewhere.Given as goal
 
 abbrev pub invariant-loop-i : goal.invariant-loop-i
 invariant-loop-i l = Looking l.nodes l.count l.i
-
-abbrev pub decreases-loop-i : goal.decreases-loop-i
-decreases-loop-i l = l.count - l.i

@@ -11,16 +11,16 @@ pub put_file-requires : goal.put_file-requires
 put_file-requires c = record {
   rows = ready c.requires.0 c.requires.1 _ _;
   inside = header-inside _ _ c.requires.0.reads c.read_header.result
-      c.read_header.new.types c.read_header.ensures.answer c.in-Is.is
+      c.read_header.new.types c.read_header.ensures.answer c.in-Ok.is
       c.opening_of-opening.ensures;
 }
 
-pub returns-in-Refused : goal.returns-in-Refused
-returns-in-Refused c = λ (lim : Limits) (h : Header) reads. never_refused lim _ reads c.read_header.result
-    c.read_header.new.types c.read_header.ensures.answer c.in-Refused.is
+pub returns-in_default : goal.returns-in_default
+returns-in_default c = λ (lim : Limits) (h : Header) reads. never_refused lim _ reads c.read_header.result
+    c.read_header.new.types c.read_header.ensures.answer c.in_default.is
 
-pub returns-in-Is : goal.returns-in-Is
-returns-in-Is c = λ (lim : Limits) (h : Header) reads. fills-as
+pub returns : goal.returns
+returns c = λ (lim : Limits) (h : Header) reads. fills-as
     (file-same lim _ reads c.read_header.result c.read_header.new.types
-    c.read_header.ensures.answer c.in-Is.is c.opening_of-opening.ensures _ _
+    c.read_header.ensures.answer c.in-Ok.is c.opening_of-opening.ensures _ _
     (tree_is c.requires.0 c.requires.1 _ _)) c.put_file.ensures

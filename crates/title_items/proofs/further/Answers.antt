@@ -18,6 +18,6 @@ loop-k-preserved c = counting_on c.loop-k-test.true c.item_at.ensures c.if-item_
 
 pub returns : goal.returns
 returns c = record {
-  count = counting_end c.loop-k-test.false c.loop-k.invariant;
+  count = λ f row title. omega (arith, counting_end c.loop-k-test.false c.loop-k.invariant f row title);
   few = omega arith;
 }

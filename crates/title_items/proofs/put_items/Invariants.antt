@@ -9,6 +9,3 @@ use Rattle.title_items.proofs.put_items.Given as goal
 abbrev pub invariant-loop-k : goal.invariant-loop-k
 invariant-loop-k l = (l.first ≤ l.k) × (l.k ≤ l.end) × Going l.initial.out l.out l.to l.next
     (items_text (contents_from l.file l.row l.title l.items l.first (l.end - l.first))) (items_text (contents_from l.file l.row l.title l.items l.k (l.end - l.k)))
-
-abbrev pub decreases-loop-k : goal.decreases-loop-k
-decreases-loop-k l = l.end - l.k

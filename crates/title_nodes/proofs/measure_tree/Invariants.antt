@@ -6,6 +6,3 @@ use Rattle.title_nodes.proofs.measure_tree.Given as goal
 
 abbrev pub invariant-loop-i : goal.invariant-loop-i
 invariant-loop-i l = Measuring (task l.file l.nodes l.items l.count l.total l.row l.title) l.i l.end l.top l.sizes l.metadata l.packed l.same l.headers l.lengths
-
-abbrev pub decreases-loop-i : goal.decreases-loop-i
-decreases-loop-i l = l.i

@@ -10,7 +10,7 @@ extend-requires c = (c.requires.inside.0, omega (arith, c.requires.inside.1, (c.
 
 pub returns-then-stands : goal.returns-then-stands
 returns-then-stands c = λ (inner : ℕ) none framed small. append_as
-    (leaf_is c.args.file.now c.args.node _ c.requires.leaf c.know_bytes.ensures none
+    (leaf_is c.args.file.now c.args.node _ c.requires.leaf (λ k. omega (arith, c.type_inv.file k)) none
     (c.stands.ensures c.if-stands.true) framed small)
     c.extend.ensures
 

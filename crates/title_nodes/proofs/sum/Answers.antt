@@ -4,11 +4,11 @@ use native.Mathlib.Omega.{arith}
 use Rattle.title_nodes.proofs.Passes.{adding_start, adding_on, adding_end}
 use Rattle.title_nodes.proofs.sum.Goals as goal
 
-pub loop-k-init : goal.loop-k-init
-loop-k-init c = adding_start _ _ _ c.requires.0
+pub loop-word-init : goal.loop-word-init
+loop-word-init c = adding_start _
 
-pub loop-k-preserved : goal.loop-k-preserved
-loop-k-preserved c = adding_on c.loop-k.invariant c.loop-k-test.true c.requires.1 (omega (arith, c.on.ensures, c.stopped-r.ensures))
+pub loop-word-preserved : goal.loop-word-preserved
+loop-word-preserved c = adding_on c.loop-word.invariant c.loop-word-test.true (omega (arith, c.on.ensures, c.stopped-r.ensures))
 
 pub returns : goal.returns
-returns c = adding_end c.loop-k.invariant c.loop-k-test.false
+returns c = adding_end c.loop-word.invariant c.loop-word-test.false

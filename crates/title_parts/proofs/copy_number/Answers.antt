@@ -1,12 +1,13 @@
 -- `copy_number` puts the number that it reads.
 -- Assumes nothing.
-use Rattle.title_parts.proofs.Copying.{number-no, number_is}
+use Rattle.title_parts.proofs.Copying.{copies-no, number-no, number_is}
 use Rattle.cursor.specs.Told.{number_told}
 use Rattle.machine.proofs.Laws.{was}
+use Rattle.refusals.proofs.Passing.{passed_on}
 use Rattle.title_parts.proofs.copy_number.Goals as goal
 
-pub returns-in-Refused : goal.returns-in-Refused
-returns-in-Refused c = λ κ. record { is = number-no κ _ _ (was number_told (c.number.ensures κ) c.in-Refused.is) }
+pub returns-in_err-v : goal.returns-in_err-v
+returns-in_err-v c = λ κ. copies-no (passed_on c.from_residual.ensures.1) (number-no κ _ _ (was number_told (c.number.ensures κ) c.in_err-v.was))
 
-pub returns-in-Is : goal.returns-in-Is
-returns-in-Is c = λ κ. record { is = (_, number_is κ _ _ (was number_told (c.number.ensures κ) c.in-Is.is), c.put_number.ensures) }
+pub returns : goal.returns
+returns c = λ κ. record { is = (_, number_is κ _ _ (was number_told (c.number.ensures κ) c.in_ok-v.was), c.put_number.ensures) }

@@ -1,20 +1,19 @@
 -- `copy_unpackers` puts one after the other. The invariant: what is put and what is left are the whole.
 -- Assumes nothing.
-use Rattle.title_parts.proofs.Copying.{copying_start, copying_on, copying_no, copying_end, unpacker-behind, copied-was, copied-no}
+use Rattle.title_parts.proofs.Copying.{copying_start, copying_on, copying_no, copying_end, unpacker-behind, copied-was, copied-no, copies-no}
+use Rattle.refusals.proofs.Passing.{passed_on}
 use native.Mathlib.Omega.{arith}
 use Rattle.title_parts.proofs.copy_unpackers.Goals as goal
 
-pub loop-left-init : goal.loop-left-init
-loop-left-init c = copying_start _ _ _ _ _ _ (omega arith)
+pub loop-i-init : goal.loop-i-init
+loop-i-init c = copying_start _ _ _ _ _ _ (omega arith)
 
-pub returns-in-Refused : goal.returns-in-Refused
-returns-in-Refused c = record {
-  is = copying_no (unpacker-behind _) c.loop-left.invariant c.loop-left-test.true
-      (copied-no (copied-was c.copy_unpacker.ensures c.in-Refused.is));
-}
+pub returns-in_err-a : goal.returns-in_err-a
+returns-in_err-a c = copies-no (passed_on c.from_residual.ensures.1)
+    (copying_no (unpacker-behind _) c.loop-i.invariant c.loop-i-test.true (copied-no c.copy_unpacker.ensures c.in_err-a.was))
 
-pub loop-left-preserved : goal.loop-left-preserved
-loop-left-preserved c = copying_on (unpacker-behind _) c.loop-left.invariant c.loop-left-test.true (copied-was c.copy_unpacker.ensures c.in-To.is)
+pub loop-i-preserved : goal.loop-i-preserved
+loop-i-preserved c = copying_on (unpacker-behind _) c.loop-i.invariant c.loop-i-test.true (copied-was c.copy_unpacker.ensures c.in_ok-a.was)
 
 pub returns : goal.returns
-returns c = record { is = copying_end (unpacker-behind _) c.loop-left.invariant c.loop-left-test.false }
+returns c = record { is = copying_end (unpacker-behind _) c.loop-i.invariant c.loop-i-test.false }

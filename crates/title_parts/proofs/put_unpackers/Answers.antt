@@ -13,10 +13,10 @@ put_part-requires c = (c.requires.1.same c.if-p.true).0
 pub returns-then-p : goal.returns-then-p
 returns-then-p c = block_same c.requires.1.size (c.requires.1.same c.if-p.true).1 c.put_number-a.ensures c.put_part.ensures
 
-pub returns-in-Refused : goal.returns-in-Refused
+pub returns-in-Err : goal.returns-in-Err
 unfolding shape
-returns-in-Refused c = block-some _ (copied-no (copied-was c.copy_unpackers.ensures c.in-Refused.is)) c.requires.1.size c.if-p-eq0.false
+returns-in-Err c = block-some _ (copied-no c.copy_unpackers.ensures c.in-Err.is) c.requires.1.size c.if-p-eq0.false
 
-pub returns-in-To : goal.returns-in-To
+pub returns-in-Ok : goal.returns-in-Ok
 unfolding shape
-returns-in-To c = block-measured _ c.requires.1.size c.put_number-a.ensures (copied-was c.copy_unpackers.ensures c.in-To.is)
+returns-in-Ok c = block-measured _ c.requires.1.size c.put_number-a.ensures (copied-was c.copy_unpackers.ensures c.in-Ok.is)

@@ -1,6 +1,6 @@
 -- Reading a node and reading its children, which call each other. What falls is one number, the levels left and the bytes left together: a child has
 -- a level less than its holder and no more bytes, and a later child has fewer bytes. It is the measure of the calls (twice, and one more for children,
--- whose first child has the same left) and of the loop over the children. The loop's invariant: what is left comes to what the whole comes to.
+-- whose first child has the same left). The loop's invariant: what is left comes to what the whole comes to.
 -- Assumes nothing.
 use lib.ListN.{length}
 use Prim.Native.Nat.{ℕ, ◌+◌, ◌*◌, ◌-◌}
@@ -20,9 +20,6 @@ decreases-read_children l = 2 * falling l.levels l.s l.c + 1
 abbrev pub decreases-read_node : goal.decreases-read_node
 decreases-read_node l = 2 * falling l.levels l.s l.c
 
-abbrev pub invariant-read_children-loop-rest : goal.invariant-read_children-loop-rest
-invariant-read_children-loop-rest l = Going
-    (context_of l.scope l.types (length l.file)) l.file l.initial.nodes l.initial.items l.levels l.parent l.s l.initial.next.at.0 l.left l.initial.m l.nodes l.items l.next.at.0 l.rest l.m
-
-abbrev pub decreases-read_children-loop-rest : goal.decreases-read_children-loop-rest
-decreases-read_children-loop-rest l = falling l.levels l.s l.next
+abbrev pub invariant-read_children-loop : goal.invariant-read_children-loop
+invariant-read_children-loop l = Going
+    (context_of l.scope l.types (length l.file)) l.file l.initial.nodes l.initial.items l.levels l.parent l.s l.initial.next.at.0 l.left l.initial.m l.nodes l.items l.next.at.0 l.counter l.m

@@ -10,22 +10,22 @@ use Rattle.utf16.proofs.converts.Goals as goal
 pub loop-at-init : goal.loop-at-init
 loop-at-init c = check-start c.args.units.now
 
-pub returns-in-Bad : goal.returns-in-Bad
-returns-in-Bad c = check-bad c.args.units.now _ c.loop-at-test.true c.loop-at.invariant (sym (ap char_told c.in-Bad.is) ∙ c.char16.ensures)
+pub returns-in-None : goal.returns-in-None
+returns-in-None c = check-bad c.args.units.now _ c.loop-at-test.true c.loop-at.invariant (sym (ap char_told c.in-None.is) ∙ c.char16.ensures)
 
 pub overflow_add-at : goal.overflow_add-at
 overflow_add-at c = (let w = check-on c.args.units.now _ c.loop-at-test.true c.loop-at.invariant
     (λ i. omega (arith, c.shared_slice_known-1.given i))
-    (sym (ap char_told c.in-Is.is) ∙ c.char16.ensures) in omega (arith, w.within))
+    (sym (ap char_told c.in-Some.is) ∙ c.char16.ensures) in omega (arith, w.within))
 
 pub loop-at-smaller : goal.loop-at-smaller
 loop-at-smaller c = (let w = char-in form16 c.args.units.now (λ i. omega (arith, c.shared_slice_known-1.given i)) _
-    (sym (ap char_told c.in-Is.is) ∙ c.char16.ensures) c.loop-at.invariant.within in omega (arith, w.1, w.2))
+    (sym (ap char_told c.in-Some.is) ∙ c.char16.ensures) c.loop-at.invariant.within in omega (arith, w.1, w.2))
 
 pub loop-at-preserved : goal.loop-at-preserved
 loop-at-preserved c = check-on c.args.units.now _ c.loop-at-test.true c.loop-at.invariant
     (λ i. omega (arith, c.shared_slice_known-1.given i))
-    (sym (ap char_told c.in-Is.is) ∙ c.char16.ensures)
+    (sym (ap char_told c.in-Some.is) ∙ c.char16.ensures)
 
 pub returns : goal.returns
 returns c = check-end c.args.units.now _ c.loop-at-test.false c.loop-at.invariant

@@ -10,30 +10,30 @@ use Rattle.utf16.proofs.to_utf8.Goals as goal
 pub loop-at-init : goal.loop-at-init
 loop-at-init c = conv_start c.args.units.now _ _ (omega arith) c.after_mark-at.ensures.upper_bound c.after_mark-at.ensures.units_value
 
-pub returns-in-Bad : goal.returns-in-Bad
-returns-in-Bad c = let all = (refused (fit-bad _ (conv_bad c.loop-at.invariant c.loop-at-test.true
-    (sym (ap char_told c.in-Bad.is) ∙ c.char16.ensures))) (conv_length c.loop-at.invariant)
-    c.clear_bytes.ensures) in record { answer = all.0; text = all.1 }
+pub returns-in-None : goal.returns-in-None
+returns-in-None c = let all = (refused (fit-bad _ (conv_bad c.loop-at.invariant c.loop-at-test.true
+    (sym (ap char_told c.in-None.is) ∙ c.char16.ensures))) (conv_length c.loop-at.invariant)
+    (c.fill.ensures.after (λ _ e. e))) in record { answer = all.0; text = all.1 }
 
 pub put8-next-requires : goal.put8-next-requires
 put8-next-requires c = (let w = char-in form16 c.args.units.now (λ i. omega (arith, c.shared_slice_known-1.given i)) _
-    (sym (ap char_told c.in-Is.is) ∙ c.char16.ensures) c.loop-at.invariant.within in w.0.most)
+    (sym (ap char_told c.in-Some.is) ∙ c.char16.ensures) c.loop-at.invariant.within in w.0.most)
 
 pub overflow_add-at : goal.overflow_add-at
 overflow_add-at c = (let w = char-in form16 c.args.units.now (λ i. omega (arith, c.shared_slice_known-1.given i)) _
-    (sym (ap char_told c.in-Is.is) ∙ c.char16.ensures) c.loop-at.invariant.within in omega (arith, w.2))
+    (sym (ap char_told c.in-Some.is) ∙ c.char16.ensures) c.loop-at.invariant.within in omega (arith, w.2))
 
 pub loop-at-smaller : goal.loop-at-smaller
 loop-at-smaller c = (let w = char-in form16 c.args.units.now (λ i. omega (arith, c.shared_slice_known-1.given i)) _
-    (sym (ap char_told c.in-Is.is) ∙ c.char16.ensures) c.loop-at.invariant.within in omega (arith, w.1, w.2))
+    (sym (ap char_told c.in-Some.is) ∙ c.char16.ensures) c.loop-at.invariant.within in omega (arith, w.1, w.2))
 
 pub loop-at-preserved : goal.loop-at-preserved
 loop-at-preserved c = conv_on form16 c.args.units.now (λ i. omega (arith, c.shared_slice_known-1.given i)) _
-    (sym (ap char_told c.in-Is.is) ∙ c.char16.ensures) c.loop-at-test.true c.loop-at.invariant
+    (sym (ap char_told c.in-Some.is) ∙ c.char16.ensures) c.loop-at-test.true c.loop-at.invariant
     c.put8-next.ensures
 
 pub returns-then-text-next : goal.returns-then-text-next
-returns-then-text-next c = let all = (refused (conv_full c.loop-at.invariant c.loop-at-test.false c.if-text-next.true) (conv_length c.loop-at.invariant) c.clear_bytes-then-text-next.ensures) in record { answer = all.0; text = all.1 }
+returns-then-text-next c = let all = (refused (conv_full c.loop-at.invariant c.loop-at-test.false c.if-text-next.true) (conv_length c.loop-at.invariant) (c.fill-then-text-next.ensures.after (λ _ e. e))) in record { answer = all.0; text = all.1 }
 
 pub returns : goal.returns
-returns c = let all = (conv_good c.loop-at.invariant c.loop-at-test.false c.if-text-next.false (omega arith) c.clear_bytes_from.ensures) in record { answer = all.0; text = all.1 }
+returns c = let all = (conv_good c.loop-at.invariant c.loop-at-test.false c.if-text-next.false (omega arith) c.fill_from.ensures) in record { answer = all.0; text = all.1 }

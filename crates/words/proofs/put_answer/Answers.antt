@@ -4,4 +4,4 @@ use Rattle.words.proofs.Putting.{fits}
 use Rattle.words.proofs.put_answer.Goals as goal
 
 pub returns : goal.returns
-returns c = fits _ _ c.clear.ensures c.put_front.ensures
+returns c = fits _ _ (c.fill.ensures.after (λ _ e. e)) c.put_front.ensures

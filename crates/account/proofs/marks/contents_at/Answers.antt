@@ -6,5 +6,5 @@ use Rattle.account.proofs.marks.contents_at.Goals as goal
 pub returns-then-row-eq1 : goal.returns-then-row-eq1
 returns-then-row-eq1 c = contents-one _ c.if-row-eq1.true
 
-pub returns : goal.returns
-returns c = contents-other _ c.if-row-eq1.false
+pub returns-else-row-eq1 : goal.returns-else-row-eq1
+returns-else-row-eq1 c = contents-other _ c.if-row-eq1.false

@@ -7,12 +7,9 @@ use Rattle.account.proofs.marks.fill.Goals as goal
 pub loop-at-init : goal.loop-at-init
 loop-at-init c = (omega arith, filling_none _ _ _)
 
-pub bounds-marks-at : goal.bounds-marks-at
-bounds-marks-at c = omega (arith, c.loop-at.invariant.1.same, c.lesser-end.ensures)
-
 pub loop-at-preserved : goal.loop-at-preserved
-loop-at-preserved c = (omega arith, filling_more _ _ _ _ _ (omega (arith, c.loop-at.invariant.1.same, c.lesser-end.ensures)) c.loop-at.invariant.1)
+loop-at-preserved c = (omega arith, filling_more _ _ _ _ _ (omega (arith, c.loop-at.invariant.1.same)) c.loop-at.invariant.1)
 
 pub returns : goal.returns
-returns c = filling_all _ _ _ _ _ _ (omega (arith, c.loop-at.invariant.0, c.lesser-end.ensures))
-    (omega (arith, c.loop-at-test.false, c.lesser-end.ensures)) c.loop-at.invariant.1
+returns c = filling_all _ _ _ _ _ _ (omega (arith, c.loop-at.invariant.0))
+    (omega (arith, c.loop-at-test.false)) c.loop-at.invariant.1

@@ -7,9 +7,6 @@ use Rattle.account.proofs.marks.mark_items.Goals as goal
 pub loop-i-init : goal.loop-i-init
 loop-i-init c = (omega arith, painting_begun _ _ _ _ _ _)
 
-pub item_at-requires : goal.item_at-requires
-item_at-requires c = omega (arith, c.requires)
-
 pub loop-i-preserved : goal.loop-i-preserved
 loop-i-preserved c = (omega arith, painting_on _ _ _ _ _ _ (omega arith) c.loop-i.invariant.1 c.item_at.ensures c.mark_item.ensures)
 

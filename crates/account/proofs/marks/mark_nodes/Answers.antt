@@ -9,9 +9,6 @@ use Rattle.account.proofs.marks.mark_nodes.Goals as goal
 pub loop-i-init : goal.loop-i-init
 loop-i-init c = (omega arith, painting_begun _ _ _ _ _ _)
 
-pub node_at-requires : goal.node_at-requires
-node_at-requires c = omega (arith, c.requires)
-
 pub mark_node-requires : goal.mark_node-requires
 mark_node-requires c = subst (Inside c.args.file.now) (sym c.node_at.ensures) (c.requires.1 _ (omega arith))
 

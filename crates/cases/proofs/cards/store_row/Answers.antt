@@ -1,9 +1,6 @@
--- `store_row` stores the cards one by one.
+-- One card more is stored, and all are.
 -- Assumes nothing.
-use mathlib.Core.Path.{◌≡◌, refl, ◌∙◌, ap}
-use Prim.Native.Nat.{ℕ, ◌*◌, ◌/◌, min}
-use native.Mathlib.Omega.{arith}
-use lib.ListN.{length, get_or, take}
+use Rattle.std.proofs.Common.{◌≡◌, ℕ, ◌*◌, ◌/◌, min, length, get_or, take, refl, ◌∙◌, ap, arith}
 use lib.Seq.{length-sets}
 use Rattle.shelf.specs.Shelf.{fresh_card}
 use Rattle.shelf.specs.Words.{words_with}
@@ -12,20 +9,18 @@ use Rattle.cases.proofs.Row.{with_none, stored_more}
 use Rattle.cases.proofs.cards.store_row.Goals as goal
 
 pub loop-i-init : goal.loop-i-init
-loop-i-init c = (omega arith, c.count-n.ensures, refl, with_none _)
+loop-i-init c = (refl, with_none _)
 
 pub store-requires : goal.store-requires
-store-requires c = omega (arith, c.loop-i-test.true, c.loop-i.invariant.1, c.loop-i.invariant.2)
+store-requires c = omega (arith, c.loop-i-test.true, c.loop-i.invariant.0, c.count-n.ensures)
 
 pub loop-i-preserved : goal.loop-i-preserved
 loop-i-preserved c = let four = four_of (get_or c.args.row c.loop-i.i fresh_card) in (
-  omega (arith, c.loop-i-test.true),
-  c.loop-i.invariant.1,
-  ap length c.store.ensures ∙ length-sets {A = ℕ} c.loop-i.words (c.loop-i.i * 4) four ∙ c.loop-i.invariant.2,
+  ap length c.store.ensures ∙ length-sets {A = ℕ} c.loop-i.words (c.loop-i.i * 4) four ∙ c.loop-i.invariant.0,
   c.store.ensures
-      ∙ stored_more c.args.words.now c.args.row c.loop-i.i c.well_formed.1.0.1.0.1 (omega (arith, c.loop-i-test.true, c.loop-i.invariant.1)) c.loop-i.invariant.3,
+      ∙ stored_more c.args.words.now c.args.row c.loop-i.i c.well_formed.1.0.1.0.1 (omega (arith, c.loop-i-test.true, c.count-n.ensures)) c.loop-i.invariant.1,
 )
 
 pub returns : goal.returns
-returns c = let all : c.loop-i.i ≡ min (length c.args.words.now / 4) 20 = omega (arith, c.loop-i-test.false, c.loop-i.invariant.0, c.loop-i.invariant.1) in
-    c.loop-i.invariant.3 ∙ ap (λ (k : ℕ). words_with c.args.words.now (take k c.args.row)) all
+returns c = let all : c.loop-i.i ≡ min (length c.args.words.now / 4) 20 = omega (arith, c.loop-i-test.false, c.count-n.ensures) in
+    c.loop-i.invariant.1 ∙ ap (λ (k : ℕ). words_with c.args.words.now (take k c.args.row)) all

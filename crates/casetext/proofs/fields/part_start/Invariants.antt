@@ -1,10 +1,6 @@
--- `casetext::fields::part_start` meets its contract. Assumes nothing.
-use Prim.Native.Nat.{◌≤◌}
-use lib.ListN.{length}
+-- The place is within the text. Assumes nothing.
+use Rattle.std.proofs.Common.{◌≤◌, length}
 use Rattle.casetext.proofs.fields.part_start.Given as goal
 
-abbrev pub invariant-loop-left : goal.invariant-loop-left
-invariant-loop-left l = l.at ≤ length l.text
-
-abbrev pub decreases-loop-left : goal.decreases-loop-left
-decreases-loop-left l = l.left
+abbrev pub invariant-loop : goal.invariant-loop
+invariant-loop l = l.at ≤ length l.text

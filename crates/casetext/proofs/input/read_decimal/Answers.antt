@@ -1,41 +1,19 @@
--- `casetext::input::read_decimal` meets its contract. Assumes nothing.
-use mathlib.Core.Bool.{false≢true}
-use mathlib.Core.Path.{refl}
-use native.Mathlib.Omega.{arith}
-use borrow.Author.Tests.{lt-ltb}
-use Rattle.casetext.proofs.Laws.{value-more, value-over, value-all}
+-- Where a product or a sum does not fit a word, the digits spell no number that does. Assumes nothing.
+use Rattle.std.proofs.Common.{◌≡◌, ℕ, ◌+◌, ◌*◌, ◌^◌, ◌≤◌, ◌<◌, List, length, get_or, drop, Option, None, arith}
+use Rattle.casetext.specs.Text.{digit_of, value_from, Spells}
+use Rattle.casetext.proofs.Laws.{value-over}
 use Rattle.casetext.proofs.input.read_decimal.Goals as goal
 
-pub loop-i-init : goal.loop-i-init
-loop-i-init c = (refl, omega arith)
+too_large : (ds : List ℕ) (v i : ℕ) {r : Option ℕ} → r ≡ None → i < length ds → value_from 0 ds ≡ value_from v (drop i ds) → 2 ^ 64 ≤ v * 10 + digit_of (get_or ds i 0) → Spells ds r
+too_large ds v i e l k h = rw e (record { meant = tt; taken = λ a b f. absurd (omega (arith, value-over ds v i l k)) })
 
-pub returns-then-d-gt9 : goal.returns-then-d-gt9
-returns-then-d-gt9 c = record { meant = λ e. absurd (false≢true e); taken = λ a h l. absurd (omega (arith, h c.loop-i.i c.loop-i-test.true, c.digit-d.ensures.0)) }
+pub returns-in_err-checked_mul : goal.returns-in_err-checked_mul
+returns-in_err-checked_mul c =
+    let n = rw c.in_err-checked_mul.was at c.checked_mul.ensures in
+    too_large _ c.loop-b.value _ c.from_residual.ensures c.loop-b-test.true c.loop-b.invariant (omega arith)
 
-pub overflow_sub-more : goal.overflow_sub-more
-overflow_sub-more c = omega (arith, c.wide-more.ensures)
-
-pub returns-then-value-more : goal.returns-then-value-more
-returns-then-value-more c = record {
-  meant = λ e. absurd (false≢true e);
-  taken = λ a h l. absurd
-      (omega (
-        arith,
-        c.wide-more.ensures,
-        c.digit-d.ensures.0,
-        value-over _ c.loop-i.value c.loop-i.i
-            c.loop-i-test.true c.loop-i.invariant.0,
-      ));
-}
-
-pub overflow_mul-value : goal.overflow_mul-value
-overflow_mul-value c = omega (arith, c.wide-more.ensures)
-
-pub overflow_add-value : goal.overflow_add-value
-overflow_add-value c = omega (arith, c.wide-more.ensures)
-
-pub loop-i-preserved : goal.loop-i-preserved
-loop-i-preserved c = (value-more _ _ _ _ _ c.loop-i-test.true c.loop-i.invariant.0 c.digit-d.ensures.0 c.wide-more.ensures, omega arith)
-
-pub returns : goal.returns
-returns c = record { meant = λ e. value-all _ _ c.loop-i.i c.loop-i-test.false c.loop-i.invariant.0; taken = λ a h l. lt-ltb _ _ a }
+pub returns-in_err-value : goal.returns-in_err-value
+returns-in_err-value c =
+    let n = rw c.in_err-value.was at c.checked_add.ensures in
+    let p = rw c.in_ok-checked_mul.was at c.checked_mul.ensures in
+    too_large _ c.loop-b.value _ c.from_residual-in_err-value.ensures c.loop-b-test.true c.loop-b.invariant (omega (arith, c.digit-d.ensures.0, c.from.ensures))

@@ -1,25 +1,21 @@
--- `casetext::output::put` meets its contract. Assumes nothing.
-use mathlib.Core.Path.{refl}
-use mathlib.Core.List.{[]}
-use native.Mathlib.Omega.{arith}
+-- Each byte is put behind those before it. Assumes nothing.
+use Rattle.std.proofs.Common.{[], refl, arith}
 use Rattle.casetext.proofs.Laws.{ends, put-none, put-more, put_all}
 use Rattle.casetext.proofs.output.put.Goals as goal
 
-pub loop-i-init : goal.loop-i-init
-loop-i-init c = (refl, omega arith, omega arith, omega arith, put-none c.args.out.now [] c.args.at c.start-end.result c.start-end.ensures)
+pub loop-byte-init : goal.loop-byte-init
+loop-byte-init c = record { long = refl; after = omega arith; within = omega arith; puts = put-none c.args.out.now [] c.args.at c.min-end.result (omega arith) }
 
-pub loop-i-preserved : goal.loop-i-preserved
-loop-i-preserved c = (
-  omega arith,
-  omega arith,
-  omega arith,
-  omega arith,
-  put-more c.args.out.now c.args.at c.args.bytes.now
-      c.loop-i.i (omega arith) (omega arith) c.loop-i.invariant.4 c.put_byte-end.ensures.wrote,
-)
+pub loop-byte-preserved : goal.loop-byte-preserved
+loop-byte-preserved c = record {
+  long = omega arith;
+  after = omega arith;
+  within = omega arith;
+  puts = put-more c.args.out.now c.args.at c.args.bytes.now c.loop-byte.byte-index (omega arith) (omega arith) c.loop-byte.invariant.puts c.put_byte-end.ensures.wrote;
+}
 
 pub returns : goal.returns
 returns c = record {
   ends = ends _ _ _ (omega arith) (omega arith);
-  wrote = put_all _ _ _ c.loop-i.i (omega arith) c.loop-i.invariant.4;
+  wrote = put_all _ _ _ c.loop-byte.byte-index (omega arith) c.loop-byte.invariant.puts;
 }

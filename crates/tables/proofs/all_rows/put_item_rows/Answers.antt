@@ -9,17 +9,14 @@ use Rattle.tables.proofs.Listed.{items-lined, items-start}
 use Rattle.tables.proofs.all_rows.put_item_rows.Goals as goal
 
 pub loop-i-init : goal.loop-i-init
-loop-i-init c = (omega arith, going_start _ (omega arith) (sym (items-start _ _)))
+loop-i-init c = going_start _ (omega arith) (sym (items-start _ _))
 
 pub item_at-requires : goal.item_at-requires
 item_at-requires c = omega (arith, c.requires)
 
 pub loop-i-preserved : goal.loop-i-preserved
-loop-i-preserved c = (
-  omega arith,
-  going_on (lines-on items-lined _ _ _ _ _ c.loop-i-test.true) c.loop-i.invariant.1
-      (counts-as (ap (λ x. item_row 0x69 c.loop-i.i x) c.item_at.ensures) c.put_item_row-next.ensures),
-)
+loop-i-preserved c = going_on (lines-on items-lined _ _ _ _ _ c.loop-i-test.true) c.loop-i.invariant
+    (counts-as (ap (λ x. item_row 0x69 c.loop-i.i x) c.item_at.ensures) c.put_item_row-next.ensures)
 
 pub returns : goal.returns
-returns c = going_end (lines_end items-lined _ _ _ _ _ c.loop-i-test.false) c.loop-i.invariant.1
+returns c = going_end (lines_end items-lined _ _ _ _ _ c.loop-i-test.false) c.loop-i.invariant

@@ -9,17 +9,14 @@ use Rattle.tables.proofs.Listed.{nodes-lined, nodes-start}
 use Rattle.tables.proofs.all_rows.put_node_rows.Goals as goal
 
 pub loop-i-init : goal.loop-i-init
-loop-i-init c = (omega arith, going_start _ (omega arith) (sym (nodes-start _ _)))
+loop-i-init c = going_start _ (omega arith) (sym (nodes-start _ _))
 
 pub node_at-requires : goal.node_at-requires
 node_at-requires c = omega (arith, c.requires)
 
 pub loop-i-preserved : goal.loop-i-preserved
-loop-i-preserved c = (
-  omega arith,
-  going_on (lines-on nodes-lined _ _ _ _ _ c.loop-i-test.true) c.loop-i.invariant.1
-      (counts-as (ap (λ x. node_row c.loop-i.i x) c.node_at.ensures) c.put_node_row-next.ensures),
-)
+loop-i-preserved c = going_on (lines-on nodes-lined _ _ _ _ _ c.loop-i-test.true) c.loop-i.invariant
+    (counts-as (ap (λ x. node_row c.loop-i.i x) c.node_at.ensures) c.put_node_row-next.ensures)
 
 pub returns : goal.returns
-returns c = going_end (lines_end nodes-lined _ _ _ _ _ c.loop-i-test.false) c.loop-i.invariant.1
+returns c = going_end (lines_end nodes-lined _ _ _ _ _ c.loop-i-test.false) c.loop-i.invariant

@@ -5,10 +5,10 @@ use Rattle.usage.specs.Bytes.{summed, sums_of, sums_told}
 use Rattle.lines.proofs.Ending.{gives_as, answered, printed-good, printed-bad}
 use Rattle.usage.proofs.sums.make_sums.Goals as goal
 
-pub returns-in-Refused : goal.returns-in-Refused
+pub returns-in-Err : goal.returns-in-Err
 unfolding sums_of
-returns-in-Refused c = let all = (answered (gives_as (printed-bad summed _ _ (ap sums_told c.in-Refused.is)) c.refuse.ensures)) in record { prefix_len = all.0; gives = all.1 }
+returns-in-Err c = let all = (answered (gives_as (printed-bad summed _ _ (ap sums_told c.in-Err.is)) c.refuse.ensures)) in record { prefix_len = all.0; gives = all.1 }
 
-pub returns-in-Of : goal.returns-in-Of
+pub returns-in-Ok : goal.returns-in-Ok
 unfolding sums_of
-returns-in-Of c = let all = (answered (gives_as (printed-good summed _ _ (ap sums_told c.in-Of.is)) (c.conclude.ensures _ _ c.put_sums-end.ensures))) in record { prefix_len = all.0; gives = all.1 }
+returns-in-Ok c = let all = (answered (gives_as (printed-good summed _ _ (ap sums_told c.in-Ok.is)) (c.conclude.ensures _ _ c.put_sums-end.ensures))) in record { prefix_len = all.0; gives = all.1 }

@@ -1,7 +1,0 @@
--- Each sum is what its call gave.
--- Assumes nothing.
-use mathlib.Core.Path.{refl}
-use Rattle.account.proofs.add.Goals as goal
-
-pub returns : goal.returns
-returns c = rw (c.on-files.ensures, c.plus_kinds-kinds.ensures) refl
