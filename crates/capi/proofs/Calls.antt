@@ -15,7 +15,7 @@ use Rattle.account.specs.Told as accounted
 use Rattle.account.specs.Told.{told, totals_in, kind_words, total_words, totals_after, nodes_after, items_after}
 use Rattle.account.specs.declared.Totals.{Totals}
 use Rattle.account.specs.declared.Accounted.{Accounted}
-use Rattle.shelf.specs.Shelf.{Label}
+use Rattle.shelf.specs.declared.Label.{Label}
 use Rattle.shelf.specs.Runs as runs
 use Rattle.shelf.specs.Runs.{Call, getting, next}
 use Rattle.shelf.specs.Words.{shelf_of, words_with}

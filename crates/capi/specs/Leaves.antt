@@ -2,7 +2,7 @@
 -- Assumes nothing.
 use Rattle.std.specs.Prelude.{◌≡◌, List, [], ◌∷◌, map, ℕ, zero, suc, length}
 use Rattle.find.specs.Find.{Wanted, standard, custom}
-use Rattle.shelf.specs.Shelf.{Label}
+use Rattle.shelf.specs.declared.Label.{Label}
 use Rattle.shelf.specs.Runs.{Call, getting}
 use Rattle.shelf.specs.Words.{shelf_of, words_with}
 use Rattle.promises.specs.Promises.{Question, account_bytes, outcome}

@@ -8,6 +8,8 @@ ghost use Rattle.shelf.specs.Runs.{putting, dropping};
 ghost use Rattle.promises.specs.Promises.{read_tree, find_item, find_own, resolve_row, copy_resource, count_for, judge_mobile, write_sheet, write_sheet2, correct_title, mend_header, to_utf8, to_utf16, move_sheet, count_frames, tag_frame};
 ghost use Rattle.capi.specs.Leaves.{asked, Leaves, LeavesTotals, LeavesShelf, LeavesSheet};
 
+use shelf::Label;
+
 // Reads the tree. Answer: version (100, 101, 200), nodes, item rows.
 pub fn xmf_read_tree(file: &[u8], nodes: &mut [u64], items: &mut [u64], answer: &mut [u64])
     ensures { Leaves read_tree file.now (nodes.old ∷ items.old ∷ []) (nodes.new ∷ items.new ∷ []) answer.old answer.new }
@@ -236,7 +238,7 @@ pub fn xmf_shelf_put(
 {
     words::put_outcome(
         answer,
-        shelf::put_words(cards, text, desk, call, boat, sheet),
+        shelf::put_words(cards, text, Label { desk, call, boat }, sheet),
     );
 }
 
@@ -252,7 +254,10 @@ pub fn xmf_shelf_get(
 )
     ensures { LeavesSheet (label desk call boat) cards.now text.now out.old out.new answer.old answer.new }
 {
-    words::put_size(answer, shelf::get_words(cards, text, desk, call, boat, out));
+    words::put_size(
+        answer,
+        shelf::get_words(cards, text, Label { desk, call, boat }, out),
+    );
 }
 
 // Drops a sheet from a shelf: its card and its part of the text are cleared. Answer: no value.
@@ -266,5 +271,8 @@ pub fn xmf_shelf_drop(
 )
     ensures { LeavesShelf (dropping (label desk call boat)) cards.old cards.new text.old text.new answer.old answer.new }
 {
-    words::put_outcome(answer, shelf::drop_words(cards, text, desk, call, boat));
+    words::put_outcome(
+        answer,
+        shelf::drop_words(cards, text, Label { desk, call, boat }),
+    );
 }

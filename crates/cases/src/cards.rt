@@ -1,13 +1,13 @@
 // The calls on cards lent as structs, for cards that are words here: they are put into an array, which is lent, and stored back.
 ghost use Rattle.std.specs.Prelude.{◌≡◌, ℕ, ◌/◌, ◌≤◌, ◌<◌, min, length, get_or, take};
-ghost use Rattle.shelf.specs.Shelf.{label, fresh_card};
+ghost use Rattle.shelf.specs.Shelf.{fresh_card};
 ghost use Rattle.shelf.specs.Runs.{putting, dropping};
 ghost use Rattle.shelf.specs.Rows.{row_of};
 ghost use Rattle.shelf.specs.Words.{cards_of, words_with};
 ghost use Rattle.shelf.specs.Told.{told_outcome, told_got, ChangesIn, Gets};
 
 use refusals::Refusal;
-use shelf::Card;
+use shelf::{Card, Label};
 
 // The most cards that the array takes.
 const MOST: usize = 20;
@@ -74,16 +74,14 @@ fn put_row(
     n: usize,
     words: &mut [u64],
     text: &mut [u8],
-    desk: u64,
-    call: u64,
-    boat: u64,
+    label: Label,
     sheet: &[u8],
 ) -> Result<(), Refusal>
     requires { n ≡ min (length words.old / 4) 20 }
-    ensures { ChangesIn words.old (putting (label desk call boat) sheet.now) (row_of (take n row) text.old) (told_outcome result) words.new text.new }
+    ensures { ChangesIn words.old (putting label sheet.now) (row_of (take n row) text.old) (told_outcome result) words.new text.new }
 {
     let mut cards = row;
-    let answer = shelf::put(&mut cards[..n], text, desk, call, boat, sheet);
+    let answer = shelf::put(&mut cards[..n], text, label, sheet);
     store_row(words, cards);
     answer
 }
@@ -93,16 +91,14 @@ fn get_row(
     row: [Card; 20],
     n: usize,
     text: &[u8],
-    desk: u64,
-    call: u64,
-    boat: u64,
+    label: Label,
     out: &mut [u8],
 ) -> Result<usize, Refusal>
     requires { n ≤ 20 }
-    ensures { Gets (label desk call boat) (row_of (take n row) text.now) (told_got result) out.old out.new }
+    ensures { Gets label (row_of (take n row) text.now) (told_got result) out.old out.new }
 {
     let cards = row;
-    shelf::get(&cards[..n], text, desk, call, boat, out)
+    shelf::get(&cards[..n], text, label, out)
 }
 
 // Drops from the first n cards of an array, and stores all its cards in the words.
@@ -111,60 +107,38 @@ fn drop_row(
     n: usize,
     words: &mut [u64],
     text: &mut [u8],
-    desk: u64,
-    call: u64,
-    boat: u64,
+    label: Label,
 ) -> Result<(), Refusal>
     requires { n ≡ min (length words.old / 4) 20 }
-    ensures { ChangesIn words.old (dropping (label desk call boat)) (row_of (take n row) text.old) (told_outcome result) words.new text.new }
+    ensures { ChangesIn words.old (dropping label) (row_of (take n row) text.old) (told_outcome result) words.new text.new }
 {
     let mut cards = row;
-    let answer = shelf::drop(&mut cards[..n], text, desk, call, boat);
+    let answer = shelf::drop(&mut cards[..n], text, label);
     store_row(words, cards);
     answer
 }
 
 // The calls of the same names, on the first 20 cards in words.
-pub fn put(
-    words: &mut [u64],
-    text: &mut [u8],
-    desk: u64,
-    call: u64,
-    boat: u64,
-    sheet: &[u8],
-) -> Result<(), Refusal>
-    ensures { ChangesIn words.old (putting (label desk call boat) sheet.now) (row_of (take 20 (cards_of words.old)) text.old) (told_outcome result) words.new text.new }
+pub fn put(words: &mut [u64], text: &mut [u8], label: Label, sheet: &[u8]) -> Result<(), Refusal>
+    ensures { ChangesIn words.old (putting label sheet.now) (row_of (take 20 (cards_of words.old)) text.old) (told_outcome result) words.new text.new }
 {
     let n = count(words.len());
     let row = load_row(words);
-    put_row(row, n, words, text, desk, call, boat, sheet)
+    put_row(row, n, words, text, label, sheet)
 }
 
-pub fn get(
-    words: &[u64],
-    text: &[u8],
-    desk: u64,
-    call: u64,
-    boat: u64,
-    out: &mut [u8],
-) -> Result<usize, Refusal>
-    ensures { Gets (label desk call boat) (row_of (take 20 (cards_of words.now)) text.now) (told_got result) out.old out.new }
+pub fn get(words: &[u64], text: &[u8], label: Label, out: &mut [u8]) -> Result<usize, Refusal>
+    ensures { Gets label (row_of (take 20 (cards_of words.now)) text.now) (told_got result) out.old out.new }
 {
     let n = count(words.len());
     let row = load_row(words);
-    get_row(row, n, text, desk, call, boat, out)
+    get_row(row, n, text, label, out)
 }
 
-pub fn drop(
-    words: &mut [u64],
-    text: &mut [u8],
-    desk: u64,
-    call: u64,
-    boat: u64,
-) -> Result<(), Refusal>
-    ensures { ChangesIn words.old (dropping (label desk call boat)) (row_of (take 20 (cards_of words.old)) text.old) (told_outcome result) words.new text.new }
+pub fn drop(words: &mut [u64], text: &mut [u8], label: Label) -> Result<(), Refusal>
+    ensures { ChangesIn words.old (dropping label) (row_of (take 20 (cards_of words.old)) text.old) (told_outcome result) words.new text.new }
 {
     let n = count(words.len());
     let row = load_row(words);
-    drop_row(row, n, words, text, desk, call, boat)
+    drop_row(row, n, words, text, label)
 }

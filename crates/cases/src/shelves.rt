@@ -3,10 +3,20 @@
 use crate::cards;
 use crate::said::{is_refusal, put_front, put_short, word};
 use refusals::Refusal;
+use shelf::Label;
 
 // The number in a part of an operation; colons separate the parts.
 fn number(op: &[u8], index: usize) -> u64 {
     casetext::read_decimal(casetext::part(op, b':', index)).unwrap_or(0) as u64
+}
+
+// The label of an operation: its parts 1 to 3.
+fn label(op: &[u8]) -> Label {
+    Label {
+        desk: number(op, 1),
+        call: number(op, 2),
+        boat: number(op, 3),
+    }
 }
 
 // Puts a sheet.
@@ -17,13 +27,11 @@ fn put(
     text: &mut [u8],
     sheet: &[u8],
 ) -> Result<(), Refusal> {
-    let desk = number(op, 1);
-    let call = number(op, 2);
-    let boat = number(op, 3);
+    let label = label(op);
     if structs {
-        return cards::put(row, text, desk, call, boat, sheet);
+        return cards::put(row, text, label, sheet);
     }
-    shelf::put_words(row, text, desk, call, boat, sheet)
+    shelf::put_words(row, text, label, sheet)
 }
 
 fn run_put(
@@ -50,13 +58,11 @@ fn get(
     text: &[u8],
     bytes: &mut [u8],
 ) -> Result<usize, Refusal> {
-    let desk = number(op, 1);
-    let call = number(op, 2);
-    let boat = number(op, 3);
+    let label = label(op);
     if structs {
-        return cards::get(row, text, desk, call, boat, bytes);
+        return cards::get(row, text, label, bytes);
     }
-    shelf::get_words(row, text, desk, call, boat, bytes)
+    shelf::get_words(row, text, label, bytes)
 }
 
 // Puts the sheet that was got.
@@ -94,13 +100,11 @@ fn run_get(structs: bool, op: &[u8], row: &[u64], text: &[u8], out: &mut [u8], a
 
 // Drops a sheet.
 fn drop(structs: bool, op: &[u8], row: &mut [u64], text: &mut [u8]) -> Result<(), Refusal> {
-    let desk = number(op, 1);
-    let call = number(op, 2);
-    let boat = number(op, 3);
+    let label = label(op);
     if structs {
-        return cards::drop(row, text, desk, call, boat);
+        return cards::drop(row, text, label);
     }
-    shelf::drop_words(row, text, desk, call, boat)
+    shelf::drop_words(row, text, label)
 }
 
 fn run_drop(

@@ -5,12 +5,13 @@ use Rattle.std.specs.Prelude as std
 use Rattle.std.specs.Prelude.{◌≡◌, false, ◌⊎◌, List, [], ◌∷◌, ◌++◌, map, ℕ, ◌≤◌, T, length, get_or, replicate}
 use Rattle.cursor.specs.Refusals.{damaged_shelf, is_allowed}
 use Rattle.room.specs.Room.{padded, counted, kept}
-use Rattle.shelf.specs.Shelf.{Label, Shelf, most_cards, fresh, part_size, is_damaged}
+use Rattle.shelf.specs.Shelf.{Shelf, most_cards, fresh, part_size, is_damaged}
 use Rattle.shelf.specs.Runs.{Call, putting, getting, dropping, refusals, answer, next, after_all, calls_of, answers_to, is_full, NeverDrops}
 use Rattle.shelf.specs.Words.{shelf_of, words_with}
 use Rattle.shelf.specs.Rows.{row_of}
 use Rattle.shelf.specs.Told.{told_outcome, told_got}
 use Rattle.shelf.specs.declared.Card.{Card}
+use Rattle.shelf.specs.declared.Label.{Label}
 use Rattle.refusals.specs.declared.Refusal.{Refusal}
 use Rattle.promises.specs.Promises.{saying, one_value, size_value}
 

@@ -11,9 +11,10 @@ use lib.Dec.{ltb, eqb}
 use lib.ListN.{length, get_or, length-replicate, get_or-replicate}
 use borrow.Author.Tests.{eqb-true, eqb-false, ltb-false}
 use Rattle.room.specs.Room.{Result, good, bad, fitting}
-use Rattle.shelf.specs.Shelf.{Label, Shelf, fresh_card, card_for, is_free, is_for, label_of, some, first, is_damaged, fresh, part_size, replaced, mapped, found, place, put_on, get_from, drop_from, after, told}
+use Rattle.shelf.specs.Shelf.{Shelf, fresh_card, card_for, is_free, is_for, label_of, some, first, is_damaged, fresh, part_size, replaced, mapped, found, place, put_on, get_from, drop_from, after, told}
 use Rattle.shelf.specs.Runs.{Call, putting, getting, dropping, desk_of, answer, next, after_all, calls_of, answers_to, is_full, NeverDrops}
 use Rattle.shelf.specs.declared.Card.{Card}
+use Rattle.shelf.specs.declared.Label.{Label}
 use Rattle.shelf.proofs.Judging.{never, there, first-is, for_desk_is, for_call_is, for_boat_is, damaged_many}
 use Rattle.shelf.proofs.Sound.{Sound, sound_whole, for_is, free_not_for, none-index, found-zero, found_here, found_nowhere, get-is, get_none, part_same, sound_then, view_zero, view_new, view_old, view_gone, tt-ff}
 

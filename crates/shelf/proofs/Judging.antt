@@ -10,8 +10,9 @@ use lib.Dec.{ltb, eqb}
 use lib.ListN.{length, get_or}
 use borrow.Author.Tests.{lt-ltb, le-ltb, eq-eqb, ne_eqb, eqb-true, eqb-false, ltb-false, ltb-true}
 use Rattle.room.specs.Room.{good, bad}
-use Rattle.shelf.specs.Shelf.{Label, fresh_card, is_free, is_for, label_of, some, first, faulty, is_damaged, found, place}
+use Rattle.shelf.specs.Shelf.{fresh_card, is_free, is_for, label_of, some, first, faulty, is_damaged, found, place}
 use Rattle.shelf.specs.declared.Card.{Card}
+use Rattle.shelf.specs.declared.Label.{Label}
 use Rattle.shelf.proofs.Search.{some_first}
 
 pub never : {A : Type 0} {a : A} {n p : ℕ} {B : Type 0} → bad n p ≡ good a → B

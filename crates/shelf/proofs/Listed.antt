@@ -10,7 +10,8 @@ use lib.ListN.{length}
 use borrow.Author.Tests.{le-leb, leb-true}
 use Rattle.room.specs.Room.{Result, good, bad, fitting}
 use Rattle.cursor.specs.Refusals.{Among}
-use Rattle.shelf.specs.Shelf.{Label, Shelf, fresh_card, card_for, is_free, is_for, some, first, is_damaged, part_size, sheet_of, replaced, mapped, found, place, put_on, get_from, drop_from, after, told, put_refusals, get_refusals, drop_refusals}
+use Rattle.shelf.specs.Shelf.{Shelf, fresh_card, card_for, is_free, is_for, some, first, is_damaged, part_size, sheet_of, replaced, mapped, found, place, put_on, get_from, drop_from, after, told, put_refusals, get_refusals, drop_refusals}
+use Rattle.shelf.specs.declared.Label.{Label}
 use Rattle.shelf.specs.Runs.{Call, putting, getting, dropping, answer, next, refusals}
 use Rattle.shelf.specs.Rows.{code_of}
 use Rattle.shelf.proofs.Judging.{never}

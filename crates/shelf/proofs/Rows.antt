@@ -7,12 +7,13 @@ use native.Mathlib.Omega.{arith}
 use lib.ListN.{length, get_or, set, take, drop, replicate, length-set}
 use lib.Seq.{take_all, take_at}
 use Rattle.room.specs.Room.{Result, good, bad, counted, kept}
-use Rattle.shelf.specs.Shelf.{Label, Shelf, fresh_card, card_for, replaced, mapped, put_on, drop_from, after}
+use Rattle.shelf.specs.Shelf.{Shelf, fresh_card, card_for, replaced, mapped, put_on, drop_from, after}
 use Rattle.shelf.specs.Runs.{Call, putting, getting, dropping, answer, next}
 use Rattle.shelf.specs.Words.{cards_of, shelf_of, words_with}
 use Rattle.shelf.specs.Rows.{blank, laid, row_of}
 use Rattle.shelf.specs.Told.{Changes, ChangesIn, Gets}
 use Rattle.shelf.specs.declared.Card.{Card}
+use Rattle.shelf.specs.declared.Label.{Label}
 use Rattle.shelf.proofs.Apart.{all-refused, all_left}
 use Rattle.shelf.proofs.Cards.{laid-more}
 use Rattle.shelf.proofs.Words.{count, with_same}

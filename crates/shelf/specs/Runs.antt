@@ -3,7 +3,8 @@
 use Rattle.std.specs.Prelude.{◌≡◌, Bool, false, cond, List, [], ◌∷◌, ◌++◌, ℕ, eqb}
 use Rattle.room.specs.Room.{Result, good, bad, fitting}
 use Rattle.cursor.specs.Refusals.{no_free_card}
-use Rattle.shelf.specs.Shelf.{Label, Shelf, put_on, get_from, drop_from, after, told, put_refusals, get_refusals, drop_refusals}
+use Rattle.shelf.specs.Shelf.{Shelf, put_on, get_from, drop_from, after, told, put_refusals, get_refusals, drop_refusals}
+use Rattle.shelf.specs.declared.Label.{Label}
 
 -- a call; get lends `room` bytes
 pub data Call : Type 0 where

@@ -6,14 +6,9 @@ use Rattle.std.proofs.lemmas.List.Edits.{sets}
 use Rattle.cursor.specs.Refusals.{no_such_card, no_free_card, already_there, sheet_too_long, damaged_shelf}
 use Rattle.room.specs.Room.{no_room, Result, good, bad, padded}
 use Rattle.shelf.specs.declared.Card.{Card}
+use Rattle.shelf.specs.declared.Label.{Label}
 
 -- ---- cards
-
--- which sheet is meant: the desk, the call and the boat that it is for
-pub record Label : Type 0 where
-  pub desk : ℕ
-  pub call : ℕ
-  pub boat : ℕ
 
 -- the card of a sheet
 abbrev pub card_for : Label → (size : ℕ) → Card

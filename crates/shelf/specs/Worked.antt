@@ -2,7 +2,8 @@
 -- Assumes nothing.
 use Rattle.std.specs.Prelude.{◌≡◌, refl, List, [], ◌∷◌, ◌++◌, replicate}
 use Rattle.room.specs.Room.{good, bad, padded, fitting}
-use Rattle.shelf.specs.Shelf.{Label, Shelf, label, card_for, fresh_card, is_free, is_for, some, first, faulty, is_damaged, fresh, part_size, with_part, sheet_of, replaced, mapped, found, place, put_on, get_from, drop_from, after, told}
+use Rattle.shelf.specs.Shelf.{Shelf, label, card_for, fresh_card, is_free, is_for, some, first, faulty, is_damaged, fresh, part_size, with_part, sheet_of, replaced, mapped, found, place, put_on, get_from, drop_from, after, told}
+use Rattle.shelf.specs.declared.Label.{Label}
 use Rattle.shelf.specs.Runs.{Call, putting, getting, dropping, answer, next, after_all, calls_of, answers_to, is_full}
 use Rattle.shelf.specs.Words.{shelf_of, words_with}
 

@@ -4,13 +4,21 @@
 
 ghost use Rattle.std.specs.Prelude.{◌≡◌, ◌+◌, ◌/◌, ◌≤◌, ◌<◌, length, get_or, take, drop, set};
 ghost use Rattle.room.specs.Room.{good, padded, fitting, counted, kept};
-ghost use Rattle.shelf.specs.Shelf.{label, fresh_card, is_free, is_for, first, is_faulty, faulty, is_damaged, with_part, found, place};
+ghost use Rattle.shelf.specs.Shelf.{label_of, fresh_card, is_free, is_for, first, is_faulty, faulty, is_damaged, with_part, found, place};
 ghost use Rattle.shelf.specs.Runs.{putting, getting, dropping, answer, next};
 ghost use Rattle.shelf.specs.Words.{cards_of, shelf_of, words_with};
 ghost use Rattle.shelf.specs.Rows.{blank, laid, row_of};
 ghost use Rattle.shelf.specs.Told.{told_outcome, told_got, told_found, Changes, Given, Gets};
 
 use refusals::{Reason, Refusal};
+
+// What a sheet is kept under: the desk, the call and the boat that it is for.
+#[derive(Clone, Copy, Debug, PartialEq, Eq)]
+pub struct Label {
+    pub desk: u64,
+    pub call: u64,
+    pub boat: u64,
+}
 
 // A card: the desk, call and boat of a sheet, and its length in bytes. The sheet is in the part of the same number. A card with call 0 is free.
 #[derive(Clone, Copy)]
@@ -21,26 +29,39 @@ pub struct Card {
     pub length: u64,
 }
 
+impl Card {
+    // What its sheet is kept under.
+    pub fn label(self) -> Label
+        ensures { result ≡ label_of self }
+    {
+        Label {
+            desk: self.desk,
+            call: self.call,
+            boat: self.boat,
+        }
+    }
+}
+
 // The most cards that a shelf may have, and the number of parts.
 pub const MOST_CARDS: usize = 16;
 
 // ---- cards
 
-// Whether a card has this desk, call and boat.
-#[tactic(auto, using(std::proofs::lemmas::Bool::Decides::nat_tests), unfolding(crate::specs::Shelf::is_for))]
-fn is_for(c: Card, desk: u64, call: u64, boat: u64) -> bool
-    ensures { result ≡ is_for (label desk call boat) c }
+// Whether a card has this label.
+#[tactic(auto, unfolding(crate::specs::Shelf::is_for))]
+fn is_for(c: Card, label: Label) -> bool
+    ensures { result ≡ is_for label c }
 {
-    c.desk == desk && c.call == call && c.boat == boat
+    c.label() == label
 }
 
-// The first card from `from` on with this desk, call and boat; the number of cards if there is none.
-fn find_from(cards: &[Card], from: usize, desk: u64, call: u64, boat: u64) -> usize
+// The first card from `from` on with this label; the number of cards if there is none.
+fn find_from(cards: &[Card], from: usize, label: Label) -> usize
     requires { from ≤ length cards.now }
-    ensures { result ≡ from + first (is_for (label desk call boat)) (drop from cards.now) }
+    ensures { result ≡ from + first (is_for label) (drop from cards.now) }
 {
     for i in from..cards.len() {
-        if is_for(cards[i], desk, call, boat) {
+        if is_for(cards[i], label) {
             return i;
         }
     }
@@ -60,7 +81,7 @@ fn find_free(cards: &[Card]) -> usize
     cards.len()
 }
 
-// Whether card i is taken and its sheet is longer than a part, or a later card has its desk, call and boat.
+// Whether card i is taken and its sheet is longer than a part, or a later card has its label.
 fn is_card_faulty(cards: &[Card], part: usize, i: usize) -> bool
     requires { i < length cards.now }
     ensures { result ≡ is_faulty part (get_or cards.now i fresh_card) (drop (i + 1) cards.now) }
@@ -72,7 +93,7 @@ fn is_card_faulty(cards: &[Card], part: usize, i: usize) -> bool
     if (part as u64) < c.length {
         return true;
     }
-    find_from(cards, i + 1, c.desk, c.call, c.boat) < cards.len()
+    find_from(cards, i + 1, c.label()) < cards.len()
 }
 
 // Whether a card is at fault.
@@ -96,22 +117,16 @@ fn is_damaged(cards: &[Card], part: usize) -> bool
 }
 
 // The card of a sheet, where a part has `part` bytes.
-fn find_sheet(
-    cards: &[Card],
-    part: usize,
-    desk: u64,
-    call: u64,
-    boat: u64,
-) -> Result<usize, Refusal>
-    ensures { told_found result ≡ found (label desk call boat) part cards.now }
+fn find_sheet(cards: &[Card], part: usize, label: Label) -> Result<usize, Refusal>
+    ensures { told_found result ≡ found label part cards.now }
 {
     if is_damaged(cards, part) {
         return Err(Refusal(Reason::DamagedShelf, 0));
     }
-    if call == 0 {
+    if label.call == 0 {
         return Err(Refusal(Reason::NoSuchCard, 0));
     }
-    let i = find_from(cards, 0, desk, call, boat);
+    let i = find_from(cards, 0, label);
     if i < cards.len() {
         return Ok(i);
     }
@@ -119,24 +134,17 @@ fn find_sheet(
 }
 
 // The card for a new sheet of `size` bytes.
-fn find_place(
-    cards: &[Card],
-    part: usize,
-    desk: u64,
-    call: u64,
-    boat: u64,
-    size: usize,
-) -> Result<usize, Refusal>
-    ensures { told_found result ≡ place (label desk call boat) size part cards.now }
+fn find_place(cards: &[Card], part: usize, label: Label, size: usize) -> Result<usize, Refusal>
+    ensures { told_found result ≡ place label size part cards.now }
 {
     if is_damaged(cards, part) {
         return Err(Refusal(Reason::DamagedShelf, 0));
     }
-    if call == 0 {
+    if label.call == 0 {
         return Err(Refusal(Reason::NoSuchCard, 0));
     }
     let n = cards.len();
-    let at = find_from(cards, 0, desk, call, boat);
+    let at = find_from(cards, 0, label);
     if at < n {
         return Err(Refusal(Reason::AlreadyThere, 0));
     }
@@ -188,43 +196,29 @@ fn give(text: &[u8], at: usize, size: usize, out: &mut [u8]) -> Result<usize, Re
 
 // ---- the calls, on cards lent as structs
 
-// Puts a sheet under a desk, a call and a boat, in the lowest free card. A refusal leaves shelf and text as they were.
-pub fn put(
-    cards: &mut [Card],
-    text: &mut [u8],
-    desk: u64,
-    call: u64,
-    boat: u64,
-    sheet: &[u8],
-) -> Result<(), Refusal>
-    ensures { Changes (putting (label desk call boat) sheet.now) (row_of cards.old text.old) (told_outcome result) cards.new text.new }
+// Puts a sheet under a label, in the lowest free card. A refusal leaves shelf and text as they were.
+pub fn put(cards: &mut [Card], text: &mut [u8], label: Label, sheet: &[u8]) -> Result<(), Refusal>
+    ensures { Changes (putting label sheet.now) (row_of cards.old text.old) (told_outcome result) cards.new text.new }
 {
     let part = text.len() / MOST_CARDS;
-    let i = find_place(cards, part, desk, call, boat, sheet.len())?;
+    let i = find_place(cards, part, label, sheet.len())?;
     let length = sheet.len() as u64;
     cards[i] = Card {
-        desk,
-        call,
-        boat,
+        desk: label.desk,
+        call: label.call,
+        boat: label.boat,
         length,
     };
     store_part(text, i, sheet);
     Ok(())
 }
 
-// Gets the sheet of a desk, a call and a boat into the buffer. A refusal clears the buffer.
-pub fn get(
-    cards: &[Card],
-    text: &[u8],
-    desk: u64,
-    call: u64,
-    boat: u64,
-    out: &mut [u8],
-) -> Result<usize, Refusal>
-    ensures { Gets (label desk call boat) (row_of cards.now text.now) (told_got result) out.old out.new }
+// Gets the sheet of a label into the buffer. A refusal clears the buffer.
+pub fn get(cards: &[Card], text: &[u8], label: Label, out: &mut [u8]) -> Result<usize, Refusal>
+    ensures { Gets label (row_of cards.now text.now) (told_got result) out.old out.new }
 {
     let part = text.len() / MOST_CARDS;
-    match find_sheet(cards, part, desk, call, boat) {
+    match find_sheet(cards, part, label) {
         Err(r) => {
             out.fill(0);
             Err(r)
@@ -236,18 +230,12 @@ pub fn get(
     }
 }
 
-// Drops the sheet of a desk, a call and a boat: its card and its part are cleared. A refusal leaves shelf and text as they were.
-pub fn drop(
-    cards: &mut [Card],
-    text: &mut [u8],
-    desk: u64,
-    call: u64,
-    boat: u64,
-) -> Result<(), Refusal>
-    ensures { Changes (dropping (label desk call boat)) (row_of cards.old text.old) (told_outcome result) cards.new text.new }
+// Drops the sheet of a label: its card and its part are cleared. A refusal leaves shelf and text as they were.
+pub fn drop(cards: &mut [Card], text: &mut [u8], label: Label) -> Result<(), Refusal>
+    ensures { Changes (dropping label) (row_of cards.old text.old) (told_outcome result) cards.new text.new }
 {
     let part = text.len() / MOST_CARDS;
-    let i = find_sheet(cards, part, desk, call, boat)?;
+    let i = find_sheet(cards, part, label)?;
     cards[i] = Card {
         desk: 0,
         call: 0,
@@ -314,40 +302,31 @@ fn store_cards(words: &mut [u64], cards: &[Card])
     }
 }
 
-// Puts a sheet under a desk, a call and a boat, in the lowest free card. A refusal leaves shelf and text as they were.
+// Puts a sheet under a label, in the lowest free card. A refusal leaves shelf and text as they were.
 pub fn put_words(
     words: &mut [u64],
     text: &mut [u8],
-    desk: u64,
-    call: u64,
-    boat: u64,
+    label: Label,
     sheet: &[u8],
 ) -> Result<(), Refusal>
-    ensures result_value { told_outcome result ≡ answer (putting (label desk call boat) sheet.now) (shelf_of words.old text.old) }
-    ensures words_value { words.new ≡ words_with words.old (next (putting (label desk call boat) sheet.now) (shelf_of words.old text.old)).cards }
-    ensures text_value { text.new ≡ (next (putting (label desk call boat) sheet.now) (shelf_of words.old text.old)).text }
+    ensures result_value { told_outcome result ≡ answer (putting label sheet.now) (shelf_of words.old text.old) }
+    ensures words_value { words.new ≡ words_with words.old (next (putting label sheet.now) (shelf_of words.old text.old)).cards }
+    ensures text_value { text.new ≡ (next (putting label sheet.now) (shelf_of words.old text.old)).text }
 {
     let n = words.len() / 4;
     if MOST_CARDS < n {
         return Err(Refusal(Reason::DamagedShelf, 0));
     }
     let mut cards = cards_in(words);
-    let answer = put(&mut cards[..n], text, desk, call, boat, sheet);
+    let answer = put(&mut cards[..n], text, label, sheet);
     store_cards(words, &cards[..n]);
     answer
 }
 
-// Gets the sheet of a desk, a call and a boat into the buffer. A refusal clears the buffer.
-pub fn get_words(
-    words: &[u64],
-    text: &[u8],
-    desk: u64,
-    call: u64,
-    boat: u64,
-    out: &mut [u8],
-) -> Result<usize, Refusal>
-    ensures result_value { told_got result ≡ counted (answer (getting (label desk call boat) (length out.old)) (shelf_of words.now text.now)) }
-    ensures out_value { out.new ≡ kept (length out.old) (answer (getting (label desk call boat) (length out.old)) (shelf_of words.now text.now)) }
+// Gets the sheet of a label into the buffer. A refusal clears the buffer.
+pub fn get_words(words: &[u64], text: &[u8], label: Label, out: &mut [u8]) -> Result<usize, Refusal>
+    ensures result_value { told_got result ≡ counted (answer (getting label (length out.old)) (shelf_of words.now text.now)) }
+    ensures out_value { out.new ≡ kept (length out.old) (answer (getting label (length out.old)) (shelf_of words.now text.now)) }
 {
     let n = words.len() / 4;
     if MOST_CARDS < n {
@@ -355,27 +334,21 @@ pub fn get_words(
         return Err(Refusal(Reason::DamagedShelf, 0));
     }
     let cards = cards_in(words);
-    get(&cards[..n], text, desk, call, boat, out)
+    get(&cards[..n], text, label, out)
 }
 
-// Drops the sheet of a desk, a call and a boat: its card and its part are cleared. A refusal leaves shelf and text as they were.
-pub fn drop_words(
-    words: &mut [u64],
-    text: &mut [u8],
-    desk: u64,
-    call: u64,
-    boat: u64,
-) -> Result<(), Refusal>
-    ensures result_value { told_outcome result ≡ answer (dropping (label desk call boat)) (shelf_of words.old text.old) }
-    ensures words_value { words.new ≡ words_with words.old (next (dropping (label desk call boat)) (shelf_of words.old text.old)).cards }
-    ensures text_value { text.new ≡ (next (dropping (label desk call boat)) (shelf_of words.old text.old)).text }
+// Drops the sheet of a label: its card and its part are cleared. A refusal leaves shelf and text as they were.
+pub fn drop_words(words: &mut [u64], text: &mut [u8], label: Label) -> Result<(), Refusal>
+    ensures result_value { told_outcome result ≡ answer (dropping label) (shelf_of words.old text.old) }
+    ensures words_value { words.new ≡ words_with words.old (next (dropping label) (shelf_of words.old text.old)).cards }
+    ensures text_value { text.new ≡ (next (dropping label) (shelf_of words.old text.old)).text }
 {
     let n = words.len() / 4;
     if MOST_CARDS < n {
         return Err(Refusal(Reason::DamagedShelf, 0));
     }
     let mut cards = cards_in(words);
-    let answer = drop(&mut cards[..n], text, desk, call, boat);
+    let answer = drop(&mut cards[..n], text, label);
     store_cards(words, &cards[..n]);
     answer
 }

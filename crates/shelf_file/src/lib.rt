@@ -4,12 +4,13 @@
 ghost use Rattle.std.specs.Prelude.{◌≡◌, ◌+◌, ◌≤◌, ◌<◌, length};
 ghost use Rattle.room.specs.Counts.{Counts};
 ghost use Rattle.room.specs.Room.{counted, kept};
-ghost use Rattle.shelf.specs.Shelf.{label, fresh};
+ghost use Rattle.shelf.specs.Shelf.{fresh};
 ghost use Rattle.shelf.specs.Runs.{putting, getting, dropping};
 ghost use Rattle.shelf.specs.Told.{told_outcome, told_got};
 ghost use Rattle.shelf_file.specs.Layout.{eight, eights, word_at, words_from, text_bytes, file_of, answer_in, file_after, refusal_line};
 
 use refusals::{Reason, Refusal};
+use shelf::Label;
 
 // The bytes of the cards.
 const CARDS: usize = 512;
@@ -102,42 +103,42 @@ pub fn new() -> [u8; 1049088]
 }
 
 // Puts a sheet.
-pub fn put(file: &mut [u8], desk: u64, call: u64, boat: u64, sheet: &[u8]) -> Result<(), Refusal>
-    ensures result_value { told_outcome result ≡ answer_in (putting (label desk call boat) sheet.now) file.old }
-    ensures file_value { file.new ≡ file_after (putting (label desk call boat) sheet.now) file.old }
+pub fn put(file: &mut [u8], label: Label, sheet: &[u8]) -> Result<(), Refusal>
+    ensures result_value { told_outcome result ≡ answer_in (putting label sheet.now) file.old }
+    ensures file_value { file.new ≡ file_after (putting label sheet.now) file.old }
 {
     if file.len() != SIZE {
         return Err(Refusal(Reason::DamagedShelf, 0));
     }
     let mut words = words_in(file);
-    let outcome = shelf::put_words(&mut words, &mut file[CARDS..], desk, call, boat, sheet);
+    let outcome = shelf::put_words(&mut words, &mut file[CARDS..], label, sheet);
     put_words(file, &words);
     outcome
 }
 
 // Gets a sheet into the buffer. A refusal clears it.
-pub fn get(file: &[u8], desk: u64, call: u64, boat: u64, out: &mut [u8]) -> Result<usize, Refusal>
-    ensures result_value { told_got result ≡ counted (answer_in (getting (label desk call boat) (length out.old)) file.now) }
-    ensures out_value { out.new ≡ kept (length out.old) (answer_in (getting (label desk call boat) (length out.old)) file.now) }
+pub fn get(file: &[u8], label: Label, out: &mut [u8]) -> Result<usize, Refusal>
+    ensures result_value { told_got result ≡ counted (answer_in (getting label (length out.old)) file.now) }
+    ensures out_value { out.new ≡ kept (length out.old) (answer_in (getting label (length out.old)) file.now) }
 {
     if file.len() != SIZE {
         out.fill(0);
         return Err(Refusal(Reason::DamagedShelf, 0));
     }
     let words = words_in(file);
-    shelf::get_words(&words, &file[CARDS..], desk, call, boat, out)
+    shelf::get_words(&words, &file[CARDS..], label, out)
 }
 
 // Drops a sheet.
-pub fn drop(file: &mut [u8], desk: u64, call: u64, boat: u64) -> Result<(), Refusal>
-    ensures result_value { told_outcome result ≡ answer_in (dropping (label desk call boat)) file.old }
-    ensures file_value { file.new ≡ file_after (dropping (label desk call boat)) file.old }
+pub fn drop(file: &mut [u8], label: Label) -> Result<(), Refusal>
+    ensures result_value { told_outcome result ≡ answer_in (dropping label) file.old }
+    ensures file_value { file.new ≡ file_after (dropping label) file.old }
 {
     if file.len() != SIZE {
         return Err(Refusal(Reason::DamagedShelf, 0));
     }
     let mut words = words_in(file);
-    let outcome = shelf::drop_words(&mut words, &mut file[CARDS..], desk, call, boat);
+    let outcome = shelf::drop_words(&mut words, &mut file[CARDS..], label);
     put_words(file, &words);
     outcome
 }

@@ -6,6 +6,7 @@ ghost use Rattle.std.specs.Prelude.{◌≡◌, length};
 
 use console::Host;
 use refusals::Refusal;
+use shelf::Label;
 use std::io::{Eprint, Input, Print};
 use std::rt::Files;
 
@@ -52,32 +53,22 @@ fn put_on(
     rt: &impl Host,
     name: &[u8],
     mode: u64,
-    desk: u64,
-    call: u64,
-    boat: u64,
+    label: Label,
     sheet: &[u8],
     file: &mut [u8],
 ) -> u64 {
-    let outcome = shelf_file::put(file, desk, call, boat, sheet);
+    let outcome = shelf_file::put(file, label, sheet);
     leave(rt, name, mode, file, outcome)
 }
 
-fn drop_from(
-    rt: &impl Host,
-    name: &[u8],
-    mode: u64,
-    desk: u64,
-    call: u64,
-    boat: u64,
-    file: &mut [u8],
-) -> u64 {
-    let outcome = shelf_file::drop(file, desk, call, boat);
+fn drop_from(rt: &impl Host, name: &[u8], mode: u64, label: Label, file: &mut [u8]) -> u64 {
+    let outcome = shelf_file::drop(file, label);
     leave(rt, name, mode, file, outcome)
 }
 
-fn get_from(rt: &(impl Print + Eprint), desk: u64, call: u64, boat: u64, file: &[u8]) -> u64 {
+fn get_from(rt: &(impl Print + Eprint), label: Label, file: &[u8]) -> u64 {
     let mut sheet = io::large_buffer();
-    match shelf_file::get(file, desk, call, boat, &mut sheet) {
+    match shelf_file::get(file, label, &mut sheet) {
         Err(refusal) => refused(rt, refusal),
         Ok(size) => {
             let n = spelling::within(size, &sheet);
@@ -91,9 +82,7 @@ fn call_in(
     rt: &impl Host,
     name: &[u8],
     mode: u64,
-    desk: u64,
-    call: u64,
-    boat: u64,
+    label: Label,
     sheet: &[u8],
     file: &mut [u8],
 ) -> u64 {
@@ -102,12 +91,12 @@ fn call_in(
     }
     let n = spelling::within(SIZE, file);
     if console::is_word(rt, 3, b"put") {
-        return put_on(rt, name, mode, desk, call, boat, sheet, &mut file[..n]);
+        return put_on(rt, name, mode, label, sheet, &mut file[..n]);
     }
     if console::is_word(rt, 3, b"get") {
-        return get_from(rt, desk, call, boat, &file[..n]);
+        return get_from(rt, label, &file[..n]);
     }
-    drop_from(rt, name, mode, desk, call, boat, &mut file[..n])
+    drop_from(rt, name, mode, label, &mut file[..n])
 }
 
 // Room for a shelf and one byte more.
@@ -117,40 +106,24 @@ fn shelf_buffer() -> [u8; SIZE + 1]
     [0; SIZE + 1]
 }
 
-fn call_on(
-    rt: &impl Host,
-    name: &[u8],
-    mode: u64,
-    desk: u64,
-    call: u64,
-    boat: u64,
-    sheet: &[u8],
-) -> u64 {
+fn call_on(rt: &impl Host, name: &[u8], mode: u64, label: Label, sheet: &[u8]) -> u64 {
     let mut file = shelf_buffer();
-    call_in(rt, name, mode, desk, call, boat, sheet, &mut file)
+    call_in(rt, name, mode, label, sheet, &mut file)
 }
 
 // Reads the sheet that argument 9 names before the shelf is read.
-fn put_sheet(
-    rt: &impl Host,
-    name: &[u8],
-    mode: u64,
-    desk: u64,
-    call: u64,
-    boat: u64,
-    from: &[u8],
-) -> u64 {
+fn put_sheet(rt: &impl Host, name: &[u8], mode: u64, label: Label, from: &[u8]) -> u64 {
     let mut sheet = program::file_buffer();
     match storage::read(rt, from, &mut sheet) {
-        Some(n) => call_on(rt, name, mode, desk, call, boat, &sheet[..n]),
+        Some(n) => call_on(rt, name, mode, label, &sheet[..n]),
         None => 1,
     }
 }
 
-fn put_named(rt: &impl Host, name: &[u8], mode: u64, desk: u64, call: u64, boat: u64) -> u64 {
+fn put_named(rt: &impl Host, name: &[u8], mode: u64, label: Label) -> u64 {
     let mut from = io::buffer();
     match console::arg_at(rt, 9, b"the sheet's name", &mut from) {
-        Some(n) => put_sheet(rt, name, mode, desk, call, boat, &from[..n]),
+        Some(n) => put_sheet(rt, name, mode, label, &from[..n]),
         None => 1,
     }
 }
@@ -165,24 +138,26 @@ fn exact_at(rt: &impl Host, i: usize) -> Option<u64> {
     None
 }
 
+// The label that arguments 6 to 8 are: DESK CALL BOAT.
+fn label_at(rt: &impl Host) -> Option<Label> {
+    let desk = exact_at(rt, 6)?;
+    let call = exact_at(rt, 7)?;
+    let boat = exact_at(rt, 8)?;
+    Some(Label { desk, call, boat })
+}
+
 // MODE DESK CALL BOAT, and for put the sheet's name
 fn labelled(rt: &impl Host, name: &[u8], count: usize) -> u64 {
     let Some(mode) = console::number_at(rt, 5) else {
         return 1;
     };
-    let Some(desk) = exact_at(rt, 6) else {
-        return 1;
-    };
-    let Some(call) = exact_at(rt, 7) else {
-        return 1;
-    };
-    let Some(boat) = exact_at(rt, 8) else {
+    let Some(label) = label_at(rt) else {
         return 1;
     };
     if count == 10 {
-        return put_named(rt, name, mode, desk, call, boat);
+        return put_named(rt, name, mode, label);
     }
-    call_on(rt, name, mode, desk, call, boat, b"")
+    call_on(rt, name, mode, label, b"")
 }
 
 // Makes a fresh shelf.

@@ -1,4 +1,4 @@
--- `is_card_faulty` looks at the card, and for its desk, call and boat from the next one on.
+-- `is_card_faulty` looks at the card, and for its label from the next one on.
 -- Assumes nothing.
 use mathlib.Core.Path.{refl, ◌∙◌}
 use Prim.Native.Nat.{◌+◌}
@@ -16,5 +16,5 @@ returns-then-part-c c = faulty-long _ refl _ c.if-c-eq0.false c.if-part-c.true
 
 pub returns : goal.returns
 returns c =
-    some-from (is_for (label_of (get_or c.args.cards.now c.args.i fresh_card))) c.args.cards.now (c.args.i + 1) c.find_from.result (omega arith) c.find_from.ensures
+    some-from (is_for (label_of (get_or c.args.cards.now c.args.i fresh_card))) c.args.cards.now (c.args.i + 1) c.find_from.result (omega arith) (rw c.label.ensures at c.find_from.ensures)
     ∙ faulty-twice c.args.part refl _ c.if-c-eq0.false c.if-part-c.false
