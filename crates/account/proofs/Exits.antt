@@ -12,7 +12,7 @@ use lib.ListN.{length, replicate}
 use borrow.Author.Tests.{le-leb, lt-leb}
 use Rattle.refusals.specs.Reasons.{number_of}
 use Rattle.refusals.specs.declared.Refusal.{Refusal}
-use Rattle.room.specs.Told.{told}
+use Rattle.refusals.specs.Told.{told}
 use Rattle.rows.specs.Rows.{node_width, item_width, nodes_in, items_in, node_at, node_from}
 use Rattle.metadata.specs.Tables.{limits}
 use Rattle.file.specs.Reading.{read_file, read_of, node_table, item_table}

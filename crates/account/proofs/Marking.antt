@@ -20,7 +20,7 @@ use Rattle.rows.specs.Rows.{node_width, item_width, rows_from, node_from, item_f
 use Rattle.metadata.specs.Tables.{limits}
 use Rattle.room.specs.Counts.{too_many}
 use Rattle.room.specs.Room.{Result, good, bad, padded, fitting, counted, kept}
-use Rattle.room.specs.Told.{told}
+use Rattle.refusals.specs.Told.{told}
 use Rattle.file.specs.Hidden.{is_hidden}
 use Rattle.file.specs.Reading.{Reading, read_file, read_of, node_table, item_table}
 use Rattle.file.specs.Asking.{ask, kept_nodes, kept_items}

@@ -1,7 +1,7 @@
 -- What the code's answer says, and what a call leaves: each is one line of its contract.
 -- Assumes nothing.
 use Rattle.std.specs.Prelude.{List, [], ◌∷◌, ℕ, length}
-use Rattle.room.specs.Told as room
+use Rattle.refusals.specs.Told as refusals
 use Rattle.metadata.specs.Tables.{limits}
 use Rattle.file.specs.Asking.{Result, kept_nodes, kept_items, reads, answered}
 use Rattle.account.specs.Account.{kinds_of}
@@ -11,7 +11,7 @@ use Rattle.account.specs.declared.Totals.{Totals}
 use Rattle.account.specs.declared.Accounted.{Accounted}
 
 abbrev pub told : Accounted → Result Kinds
-told a = room.told a.kinds
+told a = refusals.told a.kinds
 
 abbrev pub totals_in : Accounted → Totals
 totals_in a = a.totals

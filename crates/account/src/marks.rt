@@ -2,7 +2,7 @@
 ghost use Rattle.std.specs.Prelude.{◌≡◌, ◌+◌, ◌*◌, ◌^◌, ◌≤◌, ◌<◌, length};
 ghost use Rattle.rows.specs.Rows.{item_width, nodes_in, items_in};
 ghost use Rattle.room.specs.Room.{counted, kept};
-ghost use Rattle.room.specs.Told.{told};
+ghost use Rattle.refusals.specs.Told.{told};
 ghost use Rattle.account.specs.ByRows.{contents_at, folded, Inside, NodesInside};
 ghost use Rattle.account.specs.ByPlace.{over_node, over_item, kind_by_rows};
 ghost use Rattle.account.specs.Marks.{marked, nodes_marked, items_marked, Shows, Becomes, spanned};

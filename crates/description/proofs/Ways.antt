@@ -1,14 +1,14 @@
 -- The ways through a content description: what each exit of the code comes to.
 -- Assumes nothing.
 use mathlib.Core.Path.{◌≡◌, refl, sym, ap, ◌∙◌}
-use mathlib.Core.Bool.{Bool, true, false, cond, ◌&&◌}
+use mathlib.Core.Bool.{Bool, true, false, cond, ◌&&◌, ◌||◌}
 use mathlib.Core.Logic.{◌⊎◌, inl, inr}
 use mathlib.Core.List.{List, [], ◌∷◌}
 use Prim.Native.Nat.{ℕ, zero, suc, ◌+◌, ◌*◌, ◌-◌, ◌^◌, ◌≤◌, ◌<◌}
 use native.Mathlib.Omega.{arith}
 use native.Mathlib.Decide.{dec_lt}
 use native.Mathlib.Nat.{mul-le-mul}
-use lib.Dec.{ltb}
+use lib.Dec.{ltb, eqb}
 use lib.ListN.{get_or}
 use borrow.Author.Tests.{lt-ltb, le-ltb, le-leb, lt-leb, eq-eqb, ne_eqb}
 use Rattle.std.proofs.Common.{Option, Some, None, Ok, Err}
@@ -16,10 +16,12 @@ use Rattle.std.proofs.Common as std
 use Rattle.std.specs.Result.{is_ok}
 use Rattle.refusals.specs.declared.Refusal.{Refusal}
 use Rattle.machine.specs.Machine.{Out, ok, refused, run, times}
-use Rattle.cursor.specs.Rows.{meta_frame}
+use Rattle.cursor.specs.Rows.{P, meta_frame}
 use Rattle.cursor.specs.Leaves.{next, number, manufacturer}
 use Rattle.cursor.specs.declared.Item.{Item}
 use Rattle.machine.proofs.Laws.{running, and_then, run-times, run-timed}
+use Rattle.machine.proofs.Wp.{Wp, at_end, wp_after, wp_weaken, wp_ret, wp_check, wp_place, wp_times}
+use Rattle.cursor.proofs.Leaves.{Any, any_free, next-on, number-on, manufacturer-on}
 use Rattle.file.specs.Asking.{Result, good, bad}
 use Rattle.description.specs.Description.{value, a_byte, guid, identifier, resource, numbers, Description, lists, table, description}
 use Rattle.description.specs.Count.{data_read, is_read, is_readable, count_at, count_of}
@@ -99,6 +101,55 @@ module _ (end : ℕ) (f : List ℕ) (at : ℕ) where
     pub resource-all : kind ≤ 5 → {o : Out (Unit {0})} → o ≡ run (identifier kind end) f q → o ≡ run (resource end) f at
     unfolding resource
     resource-all l h = h ∙ simp (running, e₁, le-leb _ _ l)
+
+-- it moves on, and stays in the part
+value_on : (end at : ℕ) → Wp Any (value end) (λ _ q. (at ≤ q) × (q ≤ end)) at
+unfolding value
+value_on end at = wp_after (number-on _ _ end at) λ v q x. wp_ret (omega arith)
+
+guid-on : (end at : ℕ) → at ≤ end → Wp Any (guid end) (λ _ q. (at ≤ q) × (q ≤ end)) at
+unfolding guid a_byte
+guid-on end at l =
+    wp_place _ at
+    (wp_weaken (wp_times (λ _. Unit {0}) 16 tt (λ t p h i. wp_after (next-on _ _ end at p) λ b q x. wp_ret (tt, omega arith, omega arith)) tt l) (λ _ q x. (x.1, x.2)))
+
+by_test : (b : Bool) {m n : P (Unit {0})} {R : Unit {0} → ℕ → Type 0} {at : ℕ} → Wp Any m R at → Wp Any n R at → Wp Any (cond b m n) R at
+by_test true h k = h
+by_test false h k = k
+
+identifier-on : (kind end at : ℕ) → at ≤ end → Wp Any (identifier kind end) (λ _ q. (at ≤ q) × (q ≤ end)) at
+unfolding identifier
+identifier-on kind end at l =
+    by_test (eqb kind 3 || eqb kind 5) (guid-on end at l)
+    (by_test (eqb kind 1) (wp_after (manufacturer-on _ end at) λ m q x. wp_weaken (value_on end q) (λ _ r y. omega arith)) (value_on end at))
+
+resource-on : (end at : ℕ) → Wp Any (resource end) (λ _ q. (at < q) × (q ≤ end)) at
+unfolding resource
+resource-on end at =
+    wp_place _ at
+    (wp_after (number-on _ _ end at) λ kind q x. wp_check _ _ λ t.
+    wp_weaken (identifier-on kind end q (omega arith)) (λ _ r y. omega arith))
+
+pub resource-further : (f : List ℕ) (end at : ℕ) {q : ℕ} → run (resource end) f at ≡ ok tt q → (at < q) × (q ≤ end)
+resource-further f end at e = at_end any_free f (resource-on end at) e
+
+-- ---- entries one after the other, each of a byte of the part or more
+
+-- i turns, begun at `start`, came to `at`: each moved on, and where one was taken, `at` is in the part
+pub record Further (end start i at : ℕ) : Type 0 where
+  pub onward : start + i ≤ at
+  pub within : 0 < i → at ≤ end
+
+pub further-none : (end start : ℕ) → Further end start 0 start
+further-none end start = record { onward = omega arith; within = λ h. absurd (omega arith) }
+
+module _ {end start i at : ℕ} (g : Further end start i at) where
+  pub further-on : {q : ℕ} → at < q → q ≤ end → Further end start (i + 1) q
+  further-on l m = record { onward = omega (arith, g.onward); within = λ h. m }
+
+  -- there are no more turns than bytes, whatever the count
+  pub further-few : i ≤ end - start
+  further-few = elim (dec_lt 0 i) [ yes h ↦ omega (arith, g.onward, g.within h) | no h ↦ omega arith ]
 
 -- ---- resources one after the other: what is left of them is the whole
 

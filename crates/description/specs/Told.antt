@@ -2,7 +2,7 @@
 -- Assumes nothing.
 use Rattle.std.specs.Prelude.{Option, Some, None, cond, ◌&&◌, List, ℕ, ◌+◌, ◌*◌, ltb, get_or}
 use Rattle.machine.specs.Machine.{Out, ok, refused}
-pub use Rattle.room.specs.Told.{told}
+pub use Rattle.refusals.specs.Told.{told}
 use Rattle.file.specs.Asking.{Result, good, bad}
 use Rattle.description.specs.Description.{Description}
 

@@ -8,7 +8,7 @@ use Rattle.std.proofs.Common.{Err}
 use Rattle.std.proofs.Common as std
 use Rattle.refusals.specs.Reasons.{number_of}
 use Rattle.refusals.specs.declared.Refusal.{Refusal}
-use Rattle.room.specs.Told.{told}
+use Rattle.refusals.specs.Told.{told}
 use Rattle.cursor.specs.declared.Node.{Node}
 use Rattle.cursor.specs.declared.Item.{Item}
 use Rattle.header.specs.Header.{Header}

@@ -21,7 +21,7 @@ use Rattle.std.proofs.Common as std
 use Rattle.refusals.specs.Reasons.{number_of}
 use Rattle.refusals.specs.declared.Refusal.{Refusal}
 use Rattle.room.specs.Room.{padded}
-use Rattle.room.specs.Told.{told}
+use Rattle.refusals.specs.Told.{told}
 use Rattle.file.specs.Asking.{Result, good, bad, ask, kept_nodes, kept_items}
 use Rattle.file.specs.declared.Summary.{Summary}
 use Rattle.file.proofs.Follow.{read_back}

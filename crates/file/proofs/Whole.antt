@@ -13,7 +13,7 @@ use Rattle.std.proofs.Common.{Ok, Err}
 use Rattle.std.proofs.Common as std
 use Rattle.refusals.specs.Reasons.{number_of}
 use Rattle.refusals.specs.declared.Refusal.{Refusal}
-use Rattle.room.specs.Told.{told}
+use Rattle.refusals.specs.Told.{told}
 use Rattle.machine.proofs.Laws.{ran}
 use Rattle.machine.proofs.Wp.{at_end}
 use Rattle.cursor.proofs.Leaves.{any_free}

@@ -6,7 +6,7 @@ ghost use Rattle.header.specs.Told.{header_of};
 ghost use Rattle.rows.specs.Rows.{nodes_of, node_at};
 ghost use Rattle.metadata.specs.Tables.{limits};
 ghost use Rattle.metadata.specs.Told.{Gives};
-ghost use Rattle.room.specs.Told.{told};
+ghost use Rattle.refusals.specs.Told.{told};
 ghost use Rattle.file.specs.Reading.{good, follow_row, follow, read_of, answer_of};
 ghost use Rattle.file.specs.Asking.{reads, reads_behind, nodes_read, items_read, nodes_behind, items_behind};
 ghost use Rattle.file.specs.Told.{Lent, tree_run, Stand, CanFollow, Follows};

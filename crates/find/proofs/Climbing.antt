@@ -17,7 +17,7 @@ use Rattle.refusals.specs.Reasons.{number_of}
 use Rattle.refusals.specs.declared.Refusal.{Refusal}
 use Rattle.rows.specs.Rows.{node_width, node_from, nodes_in, items_in, node_at}
 use Rattle.file.specs.Reading.{Reading, read_of, node_table, item_table}
-use Rattle.room.specs.Told as room
+use Rattle.refusals.specs.Told as refusals
 use Rattle.file.specs.Asking.{Result, good, bad}
 use Rattle.file.specs.Own.{Numbered, numbered, first_row, part, Tables}
 use Rattle.file.specs.declared.Summary.{Summary}
@@ -140,7 +140,7 @@ module _ (f : List ℕ) (w : Wanted) (ns : List Node) (is : List Item) (k : ℕ)
 
 -- ---- the question over a file that the reader refuses
 
-pub says-refused : (climbs : Bool) (f : List ℕ) (w : Wanted) (row nsize isize : ℕ) (o : Reading) {r : std.Result Summary Refusal} → room.told r ≡ read_of o → {x : Refusal} → r ≡ Err x → {t u : List ℕ} → t ≡ node_table nsize o → u ≡ item_table isize o
+pub says-refused : (climbs : Bool) (f : List ℕ) (w : Wanted) (row nsize isize : ℕ) (o : Reading) {r : std.Result Summary Refusal} → refusals.told r ≡ read_of o → {x : Refusal} → r ≡ Err x → {t u : List ℕ} → t ≡ node_table nsize o → u ≡ item_table isize o
     → exits.Says nsize isize o (question climbs w row f) (bad (number_of x.0) x.1) t u
 says-refused climbs f w row nsize isize o e k a b = exits.says-unread nsize isize o (question climbs w row f) e k a b
 

@@ -8,7 +8,7 @@ use Rattle.refusals.specs.declared.Refusal.{Refusal}
 use Rattle.cursor.specs.declared.FilePlace.{FilePlace}
 use Rattle.cursor.specs.declared.Cursor.{Cursor}
 use Rattle.room.specs.Room.{Result, good, bad}
-use Rattle.room.specs.Told.{told}
+use Rattle.refusals.specs.Told.{told}
 use Rattle.id3.specs.Tag.{Head}
 use Rattle.id3.specs.Frames.{no_frame}
 use Rattle.id3.specs.declared.TagFrame.{TagFrame}

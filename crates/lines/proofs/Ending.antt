@@ -14,7 +14,7 @@ use Rattle.room.specs.Room.{Result, good, bad, padded, counted, kept}
 use Rattle.io.specs.Counts as io
 use Rattle.io.proofs.Counting.{prefix_len_of_le}
 use Rattle.room.specs.Counts.{Counts, too_many}
-use Rattle.room.specs.Told.{told}
+use Rattle.refusals.specs.Told.{told}
 use Rattle.room.proofs.Counting.{wrote-all, wrote-past}
 use Rattle.text.specs.Text.{tabbed, number, escaped_part}
 use Rattle.lines.specs.Answer.{Answer, answer, plainly, name_field, ended, head_line, refusal_line, too_long_line, closed, refused_by, fitted, printed, Gives}

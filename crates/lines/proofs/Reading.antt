@@ -15,7 +15,7 @@ use Rattle.header.specs.Header.{Header}
 use Rattle.metadata.specs.Tables.{full_nodes, full_items, limits}
 use Rattle.rows.specs.Rows.{item_width, item_from, item_at, rows_from}
 use Rattle.room.specs.Room.{Result, good, bad}
-use Rattle.room.specs.Told.{told}
+use Rattle.refusals.specs.Told.{told}
 use Rattle.file.specs.Reading.{Reading, rows, refusal, read_of, read_file}
 use Rattle.file.specs.Asking.{ask}
 use Rattle.file.specs.declared.Summary.{Summary}

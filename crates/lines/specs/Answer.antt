@@ -4,7 +4,7 @@ use Rattle.std.specs.Prelude.{◌≡◌, cond, List, [], ◌∷◌, ◌++◌, �
 use Rattle.std.specs.Prelude as std
 use Rattle.refusals.specs.declared.Refusal.{Refusal}
 use Rattle.room.specs.Room.{no_room, Result, good, bad, padded, counted, kept}
-use Rattle.room.specs.Told.{told}
+use Rattle.refusals.specs.Told.{told}
 use Rattle.metadata.specs.Tables.{full_nodes, full_items, limits}
 use Rattle.file.specs.Reading.{Reading, read_file}
 use Rattle.text.specs.Text.{tabbed, number, escaped_part}

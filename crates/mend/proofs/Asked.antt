@@ -20,7 +20,7 @@ use Rattle.room.specs.Room.{Result, good, bad, kept}
 use Rattle.file.specs.Reading.{Reading, rows, refusal, read_tree, read_file, read_of, node_table, item_table}
 use Rattle.file.specs.Asking.{written_nodes, written_items}
 use Rattle.file.specs.declared.Summary.{Summary}
-use Rattle.room.specs.Told as answered
+use Rattle.refusals.specs.Told as answered
 use Rattle.file.proofs.Rows.{reads-refused}
 use Rattle.mend.specs.Fields.{Fields, fields}
 use Rattle.mend.specs.Mend.{set_to, number_at, last_of, both_lines, mended, changes, lines_of, Mended, fitting, accepted, mend}

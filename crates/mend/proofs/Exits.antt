@@ -25,7 +25,7 @@ use Rattle.room.proofs.Sets.{sets-front, padded-behind}
 use Rattle.file.specs.Reading.{Reading, rows, refusal, read_file, read_of, node_table, item_table}
 use Rattle.file.specs.Asking.{ask, written_nodes, written_items}
 use Rattle.file.specs.declared.Summary.{Summary}
-use Rattle.room.specs.Told.{told}
+use Rattle.refusals.specs.Told.{told}
 use Rattle.file.proofs.Rows.{reads-refused}
 use Rattle.mend.specs.Fields.{width, Fields}
 use Rattle.mend.specs.Mend.{value_of, number_at, with_field, set_to, both_lines, mended, fitting, accepted, mend}

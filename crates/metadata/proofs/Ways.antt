@@ -4,15 +4,16 @@ use mathlib.Core.Path.{◌≡◌, refl, sym, ◌∙◌, subst}
 use mathlib.Core.List.{List}
 use Prim.Native.Nat.{ℕ, ◌+◌, ◌-◌, ◌*◌, ◌≤◌, ◌<◌}
 use native.Mathlib.Omega.{arith}
-use lib.ListN.{length, get_or, take, drop}
+use lib.ListN.{length}
 use lib.Seq.{sets}
 use borrow.Author.Tests.{lt-ltb, eq-eqb, ne_eqb}
 use Rattle.std.proofs.Common.{Result, Ok, Err, Option, Some}
-use Rattle.std.proofs.lemmas.List.{get_or-take, get_or-drop}
 use Rattle.machine.specs.Machine.{ok, refused, run, exec, turns, times}
 use Rattle.refusals.specs.declared.Refusal.{Refusal}
 use Rattle.cursor.specs.Rows.{meta_frame}
 use Rattle.cursor.specs.Leaves.{number, block}
+use Rattle.cursor.specs.Told.{ByteTold}
+use Rattle.cursor.specs.declared.Byte.{Byte}
 use Rattle.cursor.specs.declared.Cursor.{Cursor}
 use Rattle.cursor.specs.declared.Item.{Item}
 use Rattle.machine.proofs.Laws.{running, executing, and_then, ran, exec-turn, exec-turned, exec-many, exec-times, exec-timed}
@@ -111,35 +112,32 @@ module _ (x : Context) (node index end : ℕ) (m : Made) (s : List ℕ) (at : �
 
 -- ---- an item in the common form
 
+-- the place after a byte
+abbrev after : Byte → ℕ
+after b = b.next.at.0
+
 -- five bytes that are such an item
-pub common_read : (end : ℕ) (f : List ℕ) (at : ℕ) {k size format : ℕ} → 0 ≡ get_or f at 0 → k ≡ get_or f (at + 1) 0 → 0 ≡ get_or f (at + 2) 0
-    → size ≡ get_or f (at + 3) 0 → format ≡ get_or f (at + 4) 0 → k ≤ 127 → ((size ≡ 0) → ⊥) → size ≤ 127 → format ≤ 127 → at + 4 + size ≤ end
-    → Reads f end at (record { field = Standard k; contents = Universal }) size format
+pub common_read : (end : ℕ) (f : List ℕ) (at : ℕ) {name k versions size format : Byte}
+    → ByteTold name f at → ByteTold k f (after name) → ByteTold versions f (after k) → ByteTold size f (after versions) → ByteTold format f (after size)
+    → name.value ≡ 0 → k.value ≤ 127 → versions.value ≡ 0 → ((size.value ≡ 0) → ⊥) → size.value ≤ 127 → format.value ≤ 127 → after size + size.value ≤ end
+    → Reads f end at (record { field = Standard k.value; contents = Universal }) size.value format.value
 unfolding item_frame field contents
-common_read end f at {k} {size} {format} b₀ b₁ b₂ b₃ b₄ l₁ some l₃ l₄ inside =
-    let e₀ : run (block meta_frame 3 end) f at ≡ ok 0 (at + 1) = sym (block-all meta_frame 3 end f at (number_short meta_frame 3 end f at (omega arith) b₀ (omega arith) refl) (omega arith)) in
-    let e₁ : run (number meta_frame 3 end) f (at + 1) ≡ ok k (at + 2) = number_short meta_frame 3 end f (at + 1) (omega arith) b₁ (omega arith) (omega arith) in
-    let e₂ : run (number meta_frame 3 end) f (at + 2) ≡ ok 0 (at + 3) = number_short meta_frame 3 end f (at + 2) (omega arith) b₂ (omega arith) (omega arith) in
+common_read end f at {name} {k} {versions} {size} {format} b₀ b₁ b₂ b₃ b₄ none l₁ universally some l₃ l₄ inside =
+    let q₃ : after versions ≡ at + 3 = omega (arith, b₀.on, b₁.on, b₂.on) in
+    let q₄ : after size ≡ at + 4 = omega (arith, b₃.on) in
+    let q₅ : after format ≡ at + 5 = omega (arith, b₄.on) in
+    let e₀ = sym (block-all meta_frame 3 end f at (number_short meta_frame 3 end f at (omega arith) b₀.is (omega arith) b₀.on) (omega (arith, b₀.on))) in
+    let e₁ = number_short meta_frame 3 end f (after name) (omega (arith, b₀.on)) b₁.is (omega arith) b₁.on in
+    let e₂ = number_short meta_frame 3 end f (after k) (omega (arith, b₀.on, b₁.on)) b₂.is (omega arith) b₂.on in
+    let e₃ = sym (block-all meta_frame 3 end f (after versions) (number_short meta_frame 3 end f (after versions) (omega arith) b₃.is (omega arith) b₃.on) (omega arith)) in
+    let e₄ = number_short meta_frame 3 (after size + size.value) f (after size) (omega arith) b₄.is (omega arith) b₄.on in
     record {
-      frame = simp (running, e₀, e₁, e₂);
+      frame = rw (← q₃) (simp (running, e₀, eq-eqb _ _ none, e₁, e₂, eq-eqb _ _ universally));
       universal = refl;
       some = some;
-      covers = sym (block-all meta_frame 3 end f (at + 3) (number_short meta_frame 3 end f (at + 3) (omega arith) b₃ (omega arith) (omega arith)) (omega arith));
-      coded = number_short meta_frame 3 (at + 4 + size) f (at + 4) (omega arith) b₄ (omega arith) (omega arith);
+      covers = rw (← q₃, ← q₄) e₃;
+      coded = rw (← q₄, ← q₅) e₄;
     }
-
--- a byte of the part, which ends at `end`
-pub in_part : (f : List ℕ) (at end k : ℕ) → at + k < end → get_or (take (end - at) (drop at f)) k 0 ≡ get_or f (at + k) 0
-in_part f at end k l = get_or-take (end - at) (drop at f) k 0 (omega arith) ∙ get_or-drop at f k 0
-
-pub common_part : (end : ℕ) (f : List ℕ) (at : ℕ) → at + 5 ≤ end → (s : List ℕ) → s ≡ take (end - at) (drop at f)
-    → get_or s 0 0 ≡ 0 → get_or s 1 0 ≤ 127 → get_or s 2 0 ≡ 0 → ((get_or s 3 0 ≡ 0) → ⊥) → get_or s 3 0 ≤ 127 → get_or s 4 0 ≤ 127 → at + 4 + get_or s 3 0 ≤ end
-    → Reads f end at (record { field = Standard (get_or s 1 0); contents = Universal }) (get_or s 3 0) (get_or s 4 0)
-common_part end f at l s e z k v some m g i =
-    let b : (j : ℕ) → at + j < end → get_or s j 0 ≡ get_or f (at + j) 0 = λ j h. rw e (in_part f at end j h) in
-    let o : at + 0 ≡ at = omega arith in
-    let b₀ : get_or s 0 0 ≡ get_or f at 0 = rw o at (b 0 (omega arith)) in
-    common_read end f at (sym z ∙ b₀) (b 1 (omega arith)) (sym v ∙ b 2 (omega arith)) (b 3 (omega arith)) (b 4 (omega arith)) k some m g i
 
 pub common_was : (end : ℕ) (f : List ℕ) (at : ℕ) {r : Option (MetaItem × ℕ × ℕ)} → CommonTold r f end at → {is : MetaItem} {size format : ℕ} → r ≡ Some (is, size, format) → Reads f end at is size format
 common_was end f at told e = subst (λ r. CommonTold r f end at) e told

@@ -247,20 +247,38 @@ fn read_common(c: Cursor, file: &[u8], end: FilePlace) -> Option<(MetaItem, u64,
     ensures { CommonTold result file.now end.0 c.at.0 }
 {
     let at = c.at.0;
-    if end.0 <= at {
+    if end.0 <= at || end.0 - at < 5 {
         return None;
     }
-    let &[0, number @ 0..=127, 0, size @ 1..=127, format @ 0..=127, ..] = &file[at..end.0] else {
+    let name = c.byte(file);
+    if name.value != 0 {
         return None;
-    };
-    if end.0 - at < 4 + size as usize {
+    }
+    let number = name.next.byte(file);
+    if 127 < number.value {
+        return None;
+    }
+    let versions = number.next.byte(file);
+    if versions.value != 0 {
+        return None;
+    }
+    let size = versions.next.byte(file);
+    if size.value == 0 || 127 < size.value {
+        return None;
+    }
+    let format = size.next.byte(file);
+    if 127 < format.value {
+        return None;
+    }
+    let after = size.next.on(size.value);
+    if end.0 < after.at.0 {
         return None;
     }
     let is = MetaItem {
-        field: Field::Standard(number as u64),
+        field: Field::Standard(number.value),
         contents: Contents::Universal,
     };
-    Some((is, size as u64, format as u64))
+    Some((is, size.value, format.value))
 }
 
 // An item: its field, its contents, and their rows.

@@ -6,7 +6,7 @@ use Rattle.header.specs.Header.{Header}
 use Rattle.rows.specs.Rows.{item_at, nodes_in, items_in}
 use Rattle.file.specs.Reading.{summary}
 use Rattle.file.specs.declared.Summary.{Summary}
-pub use Rattle.room.specs.Told.{told}
+pub use Rattle.refusals.specs.Told.{told}
 use Rattle.file.specs.Own.{those, part}
 use Rattle.description.specs.Row.{is_field}
 use Rattle.mobile.specs.Mobile.{verdict}

@@ -5,7 +5,7 @@ ghost use Rattle.std.specs.Prelude.{◌≡◌, [], ◌∷◌, ◌++◌, ℕ, ◌
 ghost use Rattle.std.proofs.Math.Seq.{slice};
 ghost use Rattle.room.specs.Room.{fitting, counted, kept};
 ghost use Rattle.room.specs.Counts.{Counts};
-ghost use Rattle.room.specs.Told.{told};
+ghost use Rattle.refusals.specs.Told.{told};
 ghost use Rattle.editions.specs.Sheets.{parted, written, word, item, kind, judge, picked, is_kind, items_of, moved_lines, move};
 ghost use Rattle.editions.specs.Reads.{Known, AllKnown, run_of, past_run};
 ghost use Rattle.editions.specs.Told.{Well};

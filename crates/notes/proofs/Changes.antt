@@ -14,7 +14,7 @@ use Rattle.refusals.specs.declared.Refusal.{Refusal}
 use Rattle.cursor.specs.declared.Item.{Item}
 use Rattle.metadata.specs.Tables.{full_nodes, full_items, limits}
 use Rattle.rows.specs.Rows.{item_width, item_from}
-use Rattle.room.specs.Told.{told}
+use Rattle.refusals.specs.Told.{told}
 use Rattle.room.specs.Counts.{Counts}
 use Rattle.room.proofs.Counting.{wrote-front, wrote-past}
 use Rattle.file.specs.Reading.{read_of, read_file}

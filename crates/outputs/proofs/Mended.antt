@@ -7,7 +7,7 @@ use native.Mathlib.Omega.{arith}
 use lib.ListN.{length}
 use Rattle.metadata.specs.Tables.{full_nodes, full_items, limits}
 use Rattle.room.specs.Room.{Result, good, bad, counted, kept}
-use Rattle.room.specs.Told as room
+use Rattle.refusals.specs.Told as refusals
 use Rattle.mend.specs.Mend.{Mended, mend}
 use Rattle.mend.specs.Told.{Sizes, told, sizes_of, copy_in, lines_in}
 use Rattle.std.proofs.Common as std
@@ -39,12 +39,12 @@ module _ (x : Result Mended) where
 
   -- of what the call said, the one count
   pub copy_counted : (said : std.Result (ℕ × ℕ) Refusal) (q : std.Result ℕ Refusal) → told said ≡ sizes_of x → MatchResult said (λ s. q ≡ Ok s.0) (λ k. q ≡ Err k)
-      → room.told q ≡ counted (copy_in x)
+      → refusals.told q ≡ counted (copy_in x)
   copy_counted (Ok (a, b)) q e h = rw h (sizes_good e).0
   copy_counted (Err k) q e h = rw h (sizes_bad e).0
 
   pub lines_counted : (said : std.Result (ℕ × ℕ) Refusal) (q : std.Result ℕ Refusal) → told said ≡ sizes_of x → MatchResult said (λ s. q ≡ Ok s.1) (λ k. q ≡ Err k)
-      → room.told q ≡ counted (lines_in x)
+      → refusals.told q ≡ counted (lines_in x)
   lines_counted (Ok (a, b)) q e h = rw h (sizes_good e).1
   lines_counted (Err k) q e h = rw h (sizes_bad e).1
 

@@ -1,7 +1,7 @@
 // The support sheet in either edition, and a sheet in its other edition.
 ghost use Rattle.std.specs.Prelude.{◌≡◌, length};
 ghost use Rattle.room.specs.Room.{counted, kept};
-ghost use Rattle.room.specs.Told.{told};
+ghost use Rattle.refusals.specs.Told.{told};
 ghost use Rattle.file.specs.Asking.{answered};
 ghost use Rattle.sheet.specs.Sheet.{write_in};
 ghost use Rattle.lines.specs.Answer.{Gives};

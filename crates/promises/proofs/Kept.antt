@@ -77,7 +77,7 @@ use Rattle.mend.proofs.Theorem.{read-rows, mended-length, still, mended-is, mend
 use Rattle.mend.proofs.Alike.{mended-alike}
 use Rattle.mend.proofs.Listed.{mend-listed, mend-placed}
 use Rattle.room.specs.Room as room
-use Rattle.room.specs.Told.{told}
+use Rattle.refusals.specs.Told.{told}
 use Rattle.refusals.specs.declared.Refusal.{Refusal}
 use Rattle.std.proofs.Common as std
 use Rattle.std.proofs.Common.{Ok, Err}

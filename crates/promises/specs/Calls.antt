@@ -34,7 +34,7 @@ use Rattle.title_text.specs.Title as title
 use Rattle.mend.specs.Told as mended
 use Rattle.mend.specs.Told.{size_words, sizes_of, copy_in, lines_in, asked}
 use Rattle.room.specs.Room as room
-use Rattle.room.specs.Told as written
+use Rattle.refusals.specs.Told as written
 use Rattle.utf16.specs.Unicode as unicode
 use Rattle.id3.specs.Frames as id3
 use Rattle.id3.specs.Told as tag

@@ -11,7 +11,7 @@ use Rattle.refusals.specs.Reasons.{number_of}
 use Rattle.refusals.specs.declared.Refusal.{Refusal}
 use Rattle.rows.specs.Rows.{node_width, nodes_in, tree_rows, Rising}
 use Rattle.metadata.specs.Tables.{limits}
-use Rattle.room.specs.Told as room
+use Rattle.refusals.specs.Told as refusals
 use Rattle.file.specs.Reading.{read_file, read_of, node_table, item_table}
 use Rattle.file.specs.Asking.{Result, bad, ask}
 use Rattle.file.specs.declared.Summary.{Summary}
@@ -28,7 +28,7 @@ use Rattle.resolve.proofs.Accepted.{linked, resolved_in}
 abbrev pub Ends : (f : List ℕ) (nsize isize row : ℕ) → Result Resource → (t u : List ℕ) → Type 0
 Ends f nsize isize row a t u = Says nsize isize (read_file (limits nsize isize) f) (resolve row f) a t u
 
-module _ (f : List ℕ) (nsize isize row : ℕ) {r : std.Result Summary Refusal} {t u : List ℕ} (e : room.told r ≡ read_of (read_file (limits nsize isize) f))
+module _ (f : List ℕ) (nsize isize row : ℕ) {r : std.Result Summary Refusal} {t u : List ℕ} (e : refusals.told r ≡ read_of (read_file (limits nsize isize) f))
     (a : t ≡ node_table nsize (read_file (limits nsize isize) f)) (b : u ≡ item_table isize (read_file (limits nsize isize) f)) where
   pub ends_unread : {x : Refusal} → r ≡ Err x → Ends f nsize isize row (bad (number_of x.0) x.1) t u
   ends_unread k = says-unread nsize isize _ (resolve row f) e k a b

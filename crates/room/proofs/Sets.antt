@@ -9,7 +9,7 @@ use lib.ListN.{length, replicate, take, drop, set, length-replicate}
 use lib.Seq.{sets, sets-eq, take_at}
 use Rattle.room.specs.Room.{padded}
 
-pub sets-append : (t : List ℕ) (i : ℕ) (xs ys : List ℕ) → sets (sets t i xs) (i + length xs) ys ≡ sets t i (xs ++ ys)
+pub sets-append : {X : Type 0} (t : List X) (i : ℕ) (xs ys : List X) → sets (sets t i xs) (i + length xs) ys ≡ sets t i (xs ++ ys)
 sets-append t i [] ys = rw add-zero
 sets-append t i (x ∷ xs) ys = rw (add-suc i (length xs), ← (suc-add i (length xs))) (sets-append (set t i x) (suc i) xs ys)
 

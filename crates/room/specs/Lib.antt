@@ -1,5 +1,4 @@
 pub mod Parts
 pub mod Counts
 pub mod Room
-pub mod Told
 pub mod Decimal

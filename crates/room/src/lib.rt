@@ -23,9 +23,8 @@ pub fn store<T: Copy>(xs: &mut [T], at: usize, others: &[T])
     requires { length others.now ≤ length xs.old - at }
     ensures { xs.new ≡ sets xs.old at others.now }
 {
-    let size = others.len();
-    if 0 < size {
-        xs[at..at + size].copy_from_slice(others);
+    for i in 0..others.len() {
+        xs[at + i] = others[i];
     }
 }
 

@@ -21,7 +21,7 @@ use Rattle.file.specs.declared.Summary.{Summary}
 use Rattle.file.proofs.Rows.{Standing}
 use Rattle.file.proofs.Exits as exits
 use Rattle.sheet.specs.Sheet.{sheet_of, lines_in, fitting, write, write2, write_in, counted, kept}
-use Rattle.room.specs.Told.{told}
+use Rattle.refusals.specs.Told.{told}
 use Rattle.room.specs.Counts.{too_many}
 use Rattle.room.proofs.Counting.{wrote-all}
 use Rattle.sheet.specs.Inside.{Fills}

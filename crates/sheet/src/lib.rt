@@ -6,7 +6,7 @@ ghost use Rattle.rows.specs.Rows.{node_width, item_width, item_from, nodes_in, i
 ghost use Rattle.file.specs.Asking.{answered, nodes_left, items_left};
 ghost use Rattle.sheet.specs.Sheet.{head_fields, node_line, label, text_of, item_line, visible_line, node_lines, item_lines, group_lines, lines_in, write, write2, write_in, counted, kept};
 ghost use Rattle.room.specs.Counts.{Counts};
-ghost use Rattle.room.specs.Told.{told};
+ghost use Rattle.refusals.specs.Told.{told};
 ghost use Rattle.sheet.specs.Inside.{Fills, least_text, least_line, least_lines};
 
 use cursor::{Item, Node};

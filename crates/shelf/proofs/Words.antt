@@ -5,13 +5,11 @@ use mathlib.Core.List.{List, [], ◌∷◌, ◌++◌}
 use Prim.Native.Nat.{ℕ, zero, suc, ◌+◌, ◌*◌, ◌/◌, ◌<◌}
 use native.Mathlib.Nat.{not-suc-le-zero, le_of_suc-le-suc}
 use native.Mathlib.Omega.{arith}
-use lib.ListN.{length, get_or, drop, set, length-set}
-use lib.Seq.{sets, drop_at}
+use lib.ListN.{length, get_or, drop, set}
+use lib.Seq.{sets}
 use Rattle.shelf.specs.Shelf.{fresh_card}
 use Rattle.shelf.specs.Words.{cards_of, words_of, words_with}
-use Rattle.shelf.specs.Rows.{laid}
 use Rattle.shelf.specs.declared.Card.{Card}
-use Rattle.shelf.proofs.Cards.{laid-more, laid-length, laid-all}
 
 abbrev pub four_of : Card → List ℕ
 four_of c = c.desk ∷ c.call ∷ c.boat ∷ c.length ∷ []
@@ -95,24 +93,3 @@ words-length (c ∷ cs) = omega (arith, words-length cs)
 pub cards-words : (cs : List Card) → cards_of (words_of cs) ≡ cs
 cards-words [] = refl
 cards-words (c ∷ cs) = ap (λ (ds : List Card). c ∷ ds) (cards-words cs)
-
--- cards put in front of others' place
-with_again : (ws : List ℕ) (cs ds : List Card) → length ds ≡ length cs → words_with (words_with ws cs) ds ≡ words_with ws ds
-unfolding words_with
-with_again ws cs ds e = ap (λ (vs : List ℕ). words_of ds ++ vs)
-    (drop_at (words_of cs) (drop (length cs * 4) ws) (length ds * 4) (words-length cs ∙ ap (λ n. n * 4) (sym e)) ∙ ap (λ n. drop (n * 4) ws) (sym e))
-
--- the first i cards are stored; so is the next
-pub storing_more : (ws : List ℕ) (cs : List Card) (i : ℕ) {w w' : List ℕ} → length cs ≡ length ws / 4 → i < length cs
-    → w ≡ words_with ws (laid i cs (cards_of ws)) → w' ≡ words_with w (set (cards_of w) i (get_or cs i fresh_card)) → w' ≡ words_with ws (laid (i + 1) cs (cards_of ws))
-storing_more ws cs i {w} {w'} n l s e =
-    let ds : List Card = laid i cs (cards_of ws) in let c : Card = get_or cs i fresh_card in
-    let k : length (cards_of ws) ≡ length cs = count ws ∙ sym n in
-    let m : length ds ≡ length (cards_of ws) = laid-length i cs (cards_of ws) (omega arith) (omega arith) in
-    let v : cards_of w ≡ ds = ap cards_of s ∙ cards-with ws ds m in
-    e ∙ ap (λ (x : List Card). words_with w (set x i c)) v ∙ ap (λ (x : List ℕ). words_with x (set ds i c)) s
-    ∙ with_again ws ds (set ds i c) (length-set ds i c) ∙ ap (words_with ws) (laid-more i cs (cards_of ws) l (omega arith) refl)
-
-pub storing-all : (ws : List ℕ) (cs : List Card) (i : ℕ) {w : List ℕ} → length cs ≡ length ws / 4 → i ≡ length cs
-    → w ≡ words_with ws (laid i cs (cards_of ws)) → w ≡ words_with ws cs
-storing-all ws cs i n e s = s ∙ ap (words_with ws) (laid-all i cs (cards_of ws) (sym e) (count ws ∙ sym n ∙ sym e))

@@ -4,10 +4,10 @@
 
 ghost use Rattle.std.specs.Prelude.{◌≡◌, ◌+◌, ◌/◌, ◌≤◌, ◌<◌, length, get_or, take, drop, set};
 ghost use Rattle.room.specs.Room.{good, padded, fitting, counted, kept};
-ghost use Rattle.shelf.specs.Shelf.{label_of, fresh_card, is_free, is_for, first, is_faulty, faulty, is_damaged, with_part, found, place};
+ghost use Rattle.shelf.specs.Shelf.{card_for, label_of, fresh_card, is_free, is_for, first, is_faulty, faulty, is_damaged, with_part, found, place};
 ghost use Rattle.shelf.specs.Runs.{putting, getting, dropping, answer, next};
 ghost use Rattle.shelf.specs.Words.{cards_of, shelf_of, words_with};
-ghost use Rattle.shelf.specs.Rows.{blank, laid, row_of};
+ghost use Rattle.shelf.specs.Rows.{laid, row_of};
 ghost use Rattle.shelf.specs.Told.{told_outcome, told_got, told_found, Changes, Given, Gets};
 
 use refusals::{Reason, Refusal};
@@ -28,6 +28,14 @@ pub struct Card {
     pub boat: u64,
     pub length: u64,
 }
+
+// A free card whose part holds no sheet.
+const FRESH: Card = Card {
+    desk: 0,
+    call: 0,
+    boat: 0,
+    length: 0,
+};
 
 impl Card {
     // What its sheet is kept under.
@@ -194,6 +202,19 @@ fn give(text: &[u8], at: usize, size: usize, out: &mut [u8]) -> Result<usize, Re
     Ok(size)
 }
 
+// The card of a sheet of `size` bytes.
+fn card_for(label: Label, size: usize) -> Card
+    ensures { result ≡ card_for label size }
+{
+    let length = size as u64;
+    Card {
+        desk: label.desk,
+        call: label.call,
+        boat: label.boat,
+        length,
+    }
+}
+
 // ---- the calls, on cards lent as structs
 
 // Puts a sheet under a label, in the lowest free card. A refusal leaves shelf and text as they were.
@@ -202,13 +223,7 @@ pub fn put(cards: &mut [Card], text: &mut [u8], label: Label, sheet: &[u8]) -> R
 {
     let part = text.len() / MOST_CARDS;
     let i = find_place(cards, part, label, sheet.len())?;
-    let length = sheet.len() as u64;
-    cards[i] = Card {
-        desk: label.desk,
-        call: label.call,
-        boat: label.boat,
-        length,
-    };
+    cards[i] = card_for(label, sheet.len());
     store_part(text, i, sheet);
     Ok(())
 }
@@ -236,12 +251,7 @@ pub fn drop(cards: &mut [Card], text: &mut [u8], label: Label) -> Result<(), Ref
 {
     let part = text.len() / MOST_CARDS;
     let i = find_sheet(cards, part, label)?;
-    cards[i] = Card {
-        desk: 0,
-        call: 0,
-        boat: 0,
-        length: 0,
-    };
+    cards[i] = FRESH;
     store_part(text, i, b"");
     Ok(())
 }
@@ -275,30 +285,13 @@ fn store_card(words: &mut [u64], i: usize, c: Card)
     room::store(words, i * 4, &row);
 }
 
-// The cards, of which there are at most 16, and fresh ones behind them.
-fn cards_in(words: &[u64]) -> [Card; 16]
-    requires { length words.now / 4 ≤ 16 }
-    ensures { result ≡ laid (length words.now / 4) (cards_of words.now) blank }
+// Reads the cards into the first of others.
+fn read_cards(words: &[u64], cards: &mut [Card])
+    requires { length words.now / 4 ≤ length cards.old }
+    ensures { cards.new ≡ laid (length words.now / 4) (cards_of words.now) cards.old }
 {
-    let mut cards = [Card {
-        desk: 0,
-        call: 0,
-        boat: 0,
-        length: 0,
-    }; 16];
     for i in 0..words.len() / 4 {
         cards[i] = card_at(words, i);
-    }
-    cards
-}
-
-// Replaces all cards.
-fn store_cards(words: &mut [u64], cards: &[Card])
-    requires { length cards.now ≡ length words.old / 4 }
-    ensures { words.new ≡ words_with words.old cards.now }
-{
-    for i in 0..cards.len() {
-        store_card(words, i, cards[i]);
     }
 }
 
@@ -317,10 +310,13 @@ pub fn put_words(
     if MOST_CARDS < n {
         return Err(Refusal(Reason::DamagedShelf, 0));
     }
-    let mut cards = cards_in(words);
-    let answer = put(&mut cards[..n], text, label, sheet);
-    store_cards(words, &cards[..n]);
-    answer
+    let part = text.len() / MOST_CARDS;
+    let mut cards = [FRESH; 16];
+    read_cards(words, &mut cards);
+    let place = find_place(&cards[..n], part, label, sheet.len())?;
+    store_card(words, place, card_for(label, sheet.len()));
+    store_part(text, place, sheet);
+    Ok(())
 }
 
 // Gets the sheet of a label into the buffer. A refusal clears the buffer.
@@ -333,7 +329,8 @@ pub fn get_words(words: &[u64], text: &[u8], label: Label, out: &mut [u8]) -> Re
         out.fill(0);
         return Err(Refusal(Reason::DamagedShelf, 0));
     }
-    let cards = cards_in(words);
+    let mut cards = [FRESH; 16];
+    read_cards(words, &mut cards);
     get(&cards[..n], text, label, out)
 }
 
@@ -347,8 +344,11 @@ pub fn drop_words(words: &mut [u64], text: &mut [u8], label: Label) -> Result<()
     if MOST_CARDS < n {
         return Err(Refusal(Reason::DamagedShelf, 0));
     }
-    let mut cards = cards_in(words);
-    let answer = drop(&mut cards[..n], text, label);
-    store_cards(words, &cards[..n]);
-    answer
+    let part = text.len() / MOST_CARDS;
+    let mut cards = [FRESH; 16];
+    read_cards(words, &mut cards);
+    let place = find_sheet(&cards[..n], part, label)?;
+    store_card(words, place, FRESH);
+    store_part(text, place, b"");
+    Ok(())
 }

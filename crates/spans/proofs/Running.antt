@@ -13,7 +13,7 @@ use lib.Seq.{drop-cons, take_at, length-take-le}
 use borrow.Author.Tests.{eq-eqb, ne_eqb, eqb-true, eqb-false}
 use Rattle.metadata.specs.Tables.{full_nodes, full_items, limits}
 use Rattle.room.specs.Room.{Result, good, bad, padded, counted, kept}
-use Rattle.room.specs.Told.{told}
+use Rattle.refusals.specs.Told.{told}
 use Rattle.std.proofs.Common as std
 use Rattle.std.proofs.Common.{Ok, Err}
 use Rattle.refusals.specs.Reasons.{number_of}

@@ -32,7 +32,7 @@ use Rattle.title_nodes.specs.Passes.{size_stop}
 use Rattle.title_file.specs.Stands.{Stands}
 use Rattle.title_file.specs.Told.{Fills}
 use Rattle.title.specs.Refusals.{allowed}
-use Rattle.room.specs.Told.{told}
+use Rattle.refusals.specs.Told.{told}
 use Rattle.title.specs.Told.{Wrote}
 
 -- ---- the rows' refusals

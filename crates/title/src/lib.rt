@@ -4,7 +4,7 @@
 ghost use Rattle.std.specs.Prelude.{◌≡◌, ◌≤◌, ◌*◌, ◌+◌, length};
 ghost use Rattle.rows.specs.Rows.{node_width, item_width, item_from, nodes_in, items_in};
 ghost use Rattle.room.specs.Room.{counted, kept};
-ghost use Rattle.room.specs.Told.{told};
+ghost use Rattle.refusals.specs.Told.{told};
 ghost use Rattle.title_text.specs.Title.{elsewhere, is_no_title};
 ghost use Rattle.title_nodes.specs.Passes.{task};
 ghost use Rattle.title_file.specs.Stands.{Stands};

@@ -12,7 +12,10 @@ ghost use Rattle.title_parts.specs.Told.{number_text, Copies, PackedAs};
 use cursor::{Cursor, FilePlace, Node};
 use refusals::{Reason, Refusal};
 
+// The functions that put unpackers are inlined where they are called: where the buffer is empty the compiler leaves of them what measures.
+
 // Puts the number at c. It answers, as all that copy do, the place after what was put, and the cursor after what was read for it.
+#[inline(always)]
 fn copy_number(
     out: &mut [u8],
     to: usize,
@@ -26,6 +29,7 @@ fn copy_number(
 }
 
 // Puts what names the unpacker at c, which is of that kind.
+#[inline(always)]
 fn copy_identifier(
     out: &mut [u8],
     to: usize,
@@ -53,6 +57,7 @@ fn copy_identifier(
 }
 
 // Puts the unpacker at c.
+#[inline(always)]
 fn copy_unpacker(
     out: &mut [u8],
     to: usize,
@@ -69,6 +74,7 @@ fn copy_unpacker(
 }
 
 // Puts the `count` unpackers at c.
+#[inline(always)]
 fn copy_unpackers(
     out: &mut [u8],
     to: usize,

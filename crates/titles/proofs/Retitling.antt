@@ -18,7 +18,7 @@ use Rattle.rows.specs.Rows.{item_width, nodes_in, item_from, items_in, rows_from
 use Rattle.io.specs.Counts.{IsPrefixLen}
 use Rattle.io.proofs.Counting.{prefix_len_of_le}
 use Rattle.room.specs.Room.{Result, good, bad, padded, fitting, counted, kept}
-use Rattle.room.specs.Told.{told}
+use Rattle.refusals.specs.Told.{told}
 use Rattle.room.specs.Decimal.{decimal}
 use Rattle.file.specs.Reading.{read_of, read_file}
 use Rattle.file.specs.Asking.{ask}

@@ -119,23 +119,29 @@ module _ (x : Context) (parent : ℕ) (z : Bounds) (m : Made) (s : List ℕ) (at
 -- ---- nodes one after the other
 
 module _ (x : Context) (s t₀ u₀ : List ℕ) (levels parent : ℕ) (z : Bounds) (at left : ℕ) (made : Made) where
-  -- at i, behind k nodes, with the rows m made and the tables t and u: what is left comes to what the whole comes to
+  -- at i, behind k nodes, with the rows m made and the tables t and u: what is left comes to what the whole comes to. Each node moved on, and where one was read, i is in the part
   pub record Going (t u : List ℕ) (i k : ℕ) (m : Made) : Type 0 where
     pub nodes-long : length t ≡ length t₀
     pub items-long : length u ≡ length u₀
     pub nodes-fit : m.nodes ≤ x.limits.nodes
     pub items-fit : m.items ≤ x.limits.items
-    pub onward : at ≤ i
+    pub onward : at + k ≤ i
+    pub within : 0 < k → i ≤ z.end.0
     pub same : exec put (times left (node levels x parent z) made) s at (state t₀ u₀ made) ≡ exec put (times (left - k) (node levels x parent z) m) s i (state t u m)
 
   pub children-begun : made.nodes ≤ x.limits.nodes → made.items ≤ x.limits.items → Going t₀ u₀ at 0 made
   children-begun h k =
       let e : left - 0 ≡ left = omega arith in
-      record { nodes-long = refl; items-long = refl; nodes-fit = h; items-fit = k; onward = omega arith; same = rw e refl }
+      record { nodes-long = refl; items-long = refl; nodes-fit = h; items-fit = k; onward = omega arith; within = λ l. absurd (omega arith); same = rw e refl }
 
   pub children-done : {t u : List ℕ} {c : Cursor} {k : ℕ} {m : Made} → Going t u c.at.0 k m → left ≤ k
       → Gives x.limits (Ok (m, c)) t u (exec put (times left (node levels x parent z) made) s at (state t₀ u₀ made))
   children-done {t} {u} {c} {k} {m} g z = yes (sym (g.same ∙ exec-timed put s (left - k) c.at.0 _ m (state t u m) (omega arith))) (g.nodes-fit, g.items-fit)
+
+  -- there are no more nodes than bytes, whatever their number
+  pub children-few : {t u : List ℕ} {i k : ℕ} {m : Made} → Going t u i k m → k ≤ z.end.0 - at
+  children-few {k = zero} g = omega arith
+  children-few {k = suc n} g = omega (arith, g.onward, g.within (omega arith))
 
   module _ {t u : List ℕ} {i k : ℕ} {m : Made} (g : Going t u i k m) (some : k < left) {t' u' : List ℕ} {r : Result (Made × Cursor) Refusal}
       (d : Gives x.limits r t' u' (exec put (node levels x parent z m) s i (state t u m))) where
@@ -164,6 +170,7 @@ module _ (x : Context) (s t₀ u₀ : List ℕ) (levels parent : ℕ) (z : Bound
           items-fit = b.1;
           onward = omega
               (arith, g.onward);
+          within = λ b. w.1;
           same = turn ∙ rw (done d h) refl;
         }
 

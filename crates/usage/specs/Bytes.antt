@@ -6,7 +6,7 @@ use Rattle.refusals.specs.declared.Refusal.{Refusal}
 use Rattle.cursor.specs.Refusals.{too_many_files}
 use Rattle.metadata.specs.Tables.{full_nodes, full_items, limits}
 use Rattle.room.specs.Room.{Result, good, bad}
-use Rattle.room.specs.Told.{told}
+use Rattle.refusals.specs.Told.{told}
 use Rattle.file.specs.Asking.{ask}
 use Rattle.text.specs.Text.{number}
 use Rattle.account.specs.Account.{kinds_of}

@@ -6,7 +6,7 @@ ghost use Rattle.room.specs.Counts.{Counts};
 ghost use Rattle.room.specs.Room.{fitting, counted, kept};
 ghost use Rattle.utf16.specs.Unicode.{bytes_of, utf8, bytes16, first16, tails, first8, converted, to_utf8, to_utf16, is_good};
 ghost use Rattle.utf16.specs.Told.{char_told};
-ghost use Rattle.room.specs.Told.{told};
+ghost use Rattle.refusals.specs.Told.{told};
 
 use refusals::{Reason, Refusal};
 

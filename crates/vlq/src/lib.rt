@@ -42,11 +42,14 @@ pub fn vlq_size(n: u64) -> usize
     least_bytes(n as usize, n as usize, n as usize)
 }
 
-// Puts n in k bytes.
+// Puts n in k bytes. They are stored only where all of them fit, so to measure them costs nothing.
 pub fn put_in_bytes(out: &mut [u8], to: usize, n: u64, k: usize) -> usize
     requires { k ≤ 4 }
     ensures { Counts out.old out.new to (in_bytes k n) result }
 {
+    if room::room_at(out.len(), to) < k {
+        return room::on(to, k);
+    }
     let mut next = to;
     let mut left = k;
     while 0 < left {
@@ -62,6 +65,7 @@ pub fn put_in_bytes(out: &mut [u8], to: usize, n: u64, k: usize) -> usize
 }
 
 // Puts n in its shortest form.
+#[inline]
 pub fn put_number(out: &mut [u8], to: usize, n: u64) -> usize
     ensures { Counts out.old out.new to (vlq n) result }
 {

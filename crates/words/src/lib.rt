@@ -3,7 +3,7 @@
 
 ghost use Rattle.std.specs.Prelude.{◌≡◌, ◌∷◌, [], length, get_or};
 ghost use Rattle.refusals.specs.Reasons.{number_of};
-ghost use Rattle.room.specs.Told.{told};
+ghost use Rattle.refusals.specs.Told.{told};
 ghost use Rattle.file.specs.Told as told_tree;
 ghost use Rattle.find.specs.Told as told_find;
 ghost use Rattle.resolve.specs.Told as told_resolve;

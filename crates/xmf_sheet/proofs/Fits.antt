@@ -19,7 +19,7 @@ use Rattle.file.specs.Reading.{read_file, Reading, rows, refusal}
 use Rattle.file.specs.Asking.{Result, good, bad, ask}
 use Rattle.text.specs.Text.{tabbed, number}
 use Rattle.sheet.specs.Sheet.{fitting, write, counted, kept, sheet_of}
-use Rattle.room.specs.Told.{told}
+use Rattle.refusals.specs.Told.{told}
 use Rattle.refusals.specs.Reasons.{number_of}
 use Rattle.refusals.specs.declared.Refusal.{Refusal}
 use Rattle.std.proofs.Common as std

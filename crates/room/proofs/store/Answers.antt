@@ -1,8 +1,10 @@
--- `store` stores the elements: the part of the list that was written is theirs.
+-- `store` stores the elements one by one. The invariant: the first i are stored.
 -- Assumes nothing.
-use Rattle.std.proofs.Common.{arith}
-use Rattle.room.proofs.Storing.{stored}
+use Rattle.room.proofs.Storing.{more, all}
 use Rattle.room.proofs.store.Goals as goal
 
-pub returns-then-size-gt0 : goal.returns-then-size-gt0
-returns-then-size-gt0 g c = stored _ _ c.args.at _ (omega (arith, c.requires, c.if-size-gt0.true)) c.copy_from_slice.ensures.after (omega arith)
+pub loop-i-preserved : goal.loop-i-preserved
+loop-i-preserved g c = more _ _ _ _ c.loop-i-test.true c.index-others-i.is c.loop-i.invariant
+
+pub returns : goal.returns
+returns g c = all _ _ _ _ c.loop-i-test.false c.loop-i.invariant

@@ -11,5 +11,5 @@ returns-then-n-gt-MOST_CARDS c = let all = many-got c.args.words.now c.args.text
     record { result_value = all.0; out_value = all.1 }
 
 pub returns : goal.returns
-returns c = let all = got c.args.words.now c.args.text.now refl c.cards_in-cards.ensures c.args.label c.args.out.now c.get.ensures in
+returns c = let all = got c.args.words.now c.args.text.now refl _ c.read_cards.ensures c.args.label c.args.out.now c.get.ensures in
     record { result_value = all.0; out_value = all.1 }

@@ -21,4 +21,4 @@ pub returns-in_err-i : goal.returns-in_err-i
 returns-in_err-i c = rw (passed_on c.from_residual.ensures.1) (put_refused c.args.cards.now c.args.text.now c.args.label c.args.sheet.now c.find_place.ensures c.in_err-i.was)
 
 pub returns : goal.returns
-returns c = put-done c.args.cards.now c.args.text.now c.args.label c.args.sheet.now c.find_place.ensures c.in_ok-i.was c.store_part.ensures
+returns c = rw c.card_for.ensures (put-done c.args.cards.now c.args.text.now c.args.label c.args.sheet.now c.find_place.ensures c.in_ok-i.was c.store_part.ensures)

@@ -1,16 +1,29 @@
--- `put_words` lends the cards, in an array, to `put`, and stores what is left of them.
+-- `put_words` asks for the card among those that it reads into an array, then stores card and sheet.
 -- Assumes nothing.
 use mathlib.Core.Path.{refl}
+use Rattle.refusals.proofs.Passing.{passed_on}
 use Rattle.shelf.specs.Runs.{putting}
-use Rattle.shelf.specs.Words.{shelf_of}
-use Rattle.shelf.proofs.Rows.{changed, put_keeps, many-changed}
+use Rattle.shelf.proofs.Rows.{changed, one_stored, none_stored, among, many-changed}
+use Rattle.shelf.proofs.Ways.{place_at, place-part, put_refused, put-done}
 use Rattle.shelf.proofs.put_words.Goals as goal
+
+pub store_card-requires : goal.store_card-requires
+store_card-requires c = among c.args.words.now c.args.text.now refl _ c.read_cards.ensures (place_at _ _ _ _ c.find_place.ensures c.in_ok-place.was).within
+
+pub store_part-requires : goal.store_part-requires
+store_part-requires c = (place-part _ _ _ _ c.find_place.ensures c.in_ok-place.was, (place_at _ _ _ _ c.find_place.ensures c.in_ok-place.was).fits)
 
 pub returns-then-n-gt-MOST_CARDS : goal.returns-then-n-gt-MOST_CARDS
 returns-then-n-gt-MOST_CARDS c = let all = many-changed c.args.words.now c.args.text.now c.if-n-gt-MOST_CARDS.true (putting c.args.label c.args.sheet.now) in
     record { result_value = all.0; words_value = all.1; text_value = all.2 }
 
+pub returns-in_err-place : goal.returns-in_err-place
+returns-in_err-place c = let all = changed c.args.words.now c.args.text.now refl _ c.read_cards.ensures (putting c.args.label c.args.sheet.now)
+    (put_refused _ _ _ _ c.find_place.ensures c.in_err-place.was) (none_stored c.args.words.now c.args.text.now refl _ c.read_cards.ensures) in
+    rw (passed_on c.from_residual.ensures.1) (record { result_value = all.0; words_value = all.1; text_value = all.2 })
+
 pub returns : goal.returns
-returns c = let all = changed c.args.words.now c.args.text.now refl c.cards_in-cards.ensures (putting c.args.label c.args.sheet.now)
-    (put_keeps c.args.label c.args.sheet.now (shelf_of c.args.words.now c.args.text.now)) c.put-answer.ensures c.store_cards.ensures in
+returns c = let all = changed c.args.words.now c.args.text.now refl _ c.read_cards.ensures (putting c.args.label c.args.sheet.now)
+    (put-done _ _ _ _ c.find_place.ensures c.in_ok-place.was c.store_part.ensures)
+    (one_stored c.args.words.now c.args.text.now refl _ c.read_cards.ensures _ c.card_for.ensures c.store_card.ensures) in
     record { result_value = all.0; words_value = all.1; text_value = all.2 }

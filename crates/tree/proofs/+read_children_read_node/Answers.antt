@@ -1,6 +1,7 @@
 -- Reading a node and reading its children, which call each other. What falls is one number, the levels left and the bytes left together: a child has
 -- a level less than its holder and no more bytes, and a later child has fewer bytes. It is the measure of the calls (twice, and one more for children,
--- whose first child has the same left). The loop's invariant: what is left comes to what the whole comes to.
+-- whose first child has the same left). The loop's invariant: what is left comes to what the whole comes to. Each child takes a byte of the part or more: there are no more children
+-- than it has bytes, whatever the number of contained nodes.
 -- Assumes nothing.
 use mathlib.Core.List.{[]}
 use Rattle.refusals.proofs.Passing.{passed_on}

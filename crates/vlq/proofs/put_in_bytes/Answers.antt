@@ -1,11 +1,16 @@
--- `put_in_bytes` puts n byte by byte. The invariant: of its bytes the last `left` are still to be put.
+-- `put_in_bytes` puts n byte by byte, where all of its bytes have room. The invariant: of its bytes the last `left` are still to be put.
 -- Assumes nothing.
 use mathlib.Core.Path.{refl, ap}
 use Prim.Native.Nat.{ℕ, ◌-◌, ◌/◌, ◌%◌, ◌+◌}
 use native.Mathlib.Omega.{arith}
-use Rattle.room.proofs.Counting.{going_start, going_on, going_end}
+use Rattle.room.proofs.Counting.{counts-over, going_start, going_on, going_end}
 use Rattle.vlq.proofs.Numbers.{digit_more, digit_last, power_some, none_left}
+use Rattle.vlq.proofs.Least.{in_bytes_length}
 use Rattle.vlq.proofs.put_in_bytes.Goals as goal
+
+pub returns-then-room_at-k : goal.returns-then-room_at-k
+returns-then-room_at-k c = let e = in_bytes_length c.args.k c.args.n in
+    counts-over _ (rw e c.on.ensures) (omega (arith, e, c.room_at.ensures, c.if-room_at-k.true))
 
 pub loop-left-init : goal.loop-left-init
 loop-left-init c = (omega arith, going_start _ (omega arith) refl)

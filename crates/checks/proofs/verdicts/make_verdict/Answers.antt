@@ -1,7 +1,7 @@
 -- `make_verdict` answers the verdict, or the refusal.
 -- Assumes nothing.
 use mathlib.Core.Path.{ap}
-use Rattle.room.specs.Told.{told}
+use Rattle.refusals.specs.Told.{told}
 use Rattle.mobile.specs.Mobile.{mobile}
 use Rattle.lines.proofs.Ending.{gives_as}
 use Rattle.lines.proofs.Reading.{asked-bad, asked-good}

@@ -1,7 +1,7 @@
 -- `make_bytes` answers where the bytes of the file go, or the refusal.
 -- Assumes nothing.
 use mathlib.Core.Path.{ap, ◌∙◌}
-use Rattle.room.specs.Told.{told}
+use Rattle.refusals.specs.Told.{told}
 use Rattle.lines.proofs.Ending.{gives_as, printed-good, printed-bad}
 use Rattle.usage.proofs.Accounting.{kinds-told}
 use Rattle.usage.specs.Bytes.{lined, bytes_answer}

@@ -1,4 +1,4 @@
--- What the answer of a call that fills room says.
+-- What a `Result` of the code says, as a result of the definitions.
 -- Assumes nothing.
 use Rattle.std.specs.Prelude.{ℕ, Ok, Err}
 use Rattle.std.specs.Prelude as std
